@@ -1,10 +1,12 @@
 -- What a spent book means, and what each of its calls does to that meaning.
 use mathlib.Core.Path.{_≡_}
+use mathlib.Core.Bool.{not}
 use mathlib.Core.Logic.{_⊎_}
 use mathlib.Core.List.{List}
 use Prim.Native.Nat.{ℕ, _+_, _^_, _<_, _≤_}
+use lib.Dec.{eqb}
 use lib.ListN.{length, getD}
-use Rattle.std.specs.shelf.Lists.{All, Has}
+use Rattle.std.specs.shelf.Lists.{All, Has, kept-by}
 use Rattle.std.specs.declared.result.Result.{Result}
 use Rattle.std.specs.declared.result.Result.the-variants.{Ok, Err}
 use Rattle.faults.specs.declared.BookFault.{BookFault}
@@ -68,3 +70,7 @@ Marked before p (Err Full) after = (In before p → ⊥) × (size-of before ≡ 
 -- drop takes out the pairs of an epoch, and answers how many they were
 abbrev pub Dropped : Meaning → ℕ → ℕ → Meaning → Type 0
 Dropped before epoch r after = Becomes before (λ q. In before q × (q .0 ≡ epoch → ⊥)) after × (r + size-of after ≡ size-of before)
+
+-- the pairs of other epochs, in their order: for a kind that tells how its pairs lie
+abbrev pub others : ℕ → List Pair → List Pair
+others epoch ps = kept-by (λ p. not (eqb (p .0) epoch)) ps

@@ -7,7 +7,10 @@
 ghost use mathlib.Core.Path.{_≡_};
 ghost use Prim.Native.Nat.{ℕ, _+_};
 ghost use Rattle.std.specs.Orderings.{Decides};
+ghost use Rattle.std.specs.declared.result.Result.the-variants.{Ok, Err};
+ghost use Rattle.faults.specs.declared.BookFault.the-variants.{Spent, Full};
 ghost use Rattle.book.specs.Meaning.{Meaning, In, size-of, Cleared, Marked, Dropped};
+ghost use Rattle.book.specs.Laws.{Told-alike, Size-counts, Mark-answers, Mark-counts, Drop-counts, One-place};
 use faults::BookFault;
 
 pub trait Book {
@@ -40,9 +43,57 @@ pub trait Book {
         ensures { λ r. ⌜ r ≡ meaning (now (self .entry)) .capacity ⌝ };
 }
 
+// The answers of the worked case below.
+#[derive(Drop)]
+pub struct OnePlace {
+    pub first: Result<(), BookFault>,
+    pub again: Result<(), BookFault>,
+    pub other: Result<(), BookFault>,
+    pub dropped: u16,
+    pub last: Result<(), BookFault>,
+}
+
 // How many more pairs the book takes.
 pub fn places_left<B: Book>(book: &B) -> u16
     ensures { λ r. ⌜ r + size-of (B·Book .meaning (now (book .entry))) ≡ B·Book .meaning (now (book .entry)) .capacity ⌝ }
 {
     book.capacity() - book.size()
 }
+
+// What two marks of one pair, a mark of another, a drop and a last mark answer at a cleared book. Where the
+// book has one place, the answers are: accepted, spent, full, one pair dropped, accepted.
+pub fn one_place<B: Book>(book: &mut B, a: &[u8; 32], b: &[u8; 32]) -> OnePlace
+    ensures { λ r. ⌜ (B·Book .meaning (now (book .entry)) .capacity ≡ 1 → (now (a .entry) ≡ now (b .entry) → ⊥) → r ≡ record { first = Ok tt; again = Err Spent; other = Err Full; dropped = 1; last = Ok tt }) ⌝ }
+{
+    book.clear();
+    let first = book.mark(1, a);
+    let again = book.mark(1, a);
+    let other = book.mark(1, b);
+    let dropped = book.drop_epoch(1);
+    let last = book.mark(2, b);
+    OnePlace {
+        first,
+        again,
+        other,
+        dropped,
+        last,
+    }
+}
+
+// The same over the meaning: any book with one place gives these answers to this list of calls.
+pub fn one_place_is_worked()
+    ensures { λ _. ⌜ One-place ⌝ }
+{}
+
+// No list of calls tells two books of one set and one capacity apart.
+pub fn books_are_told_alike()
+    ensures { λ _. ⌜ Told-alike ⌝ }
+{}
+
+// The set and the capacity settle what mark answers, and the sizes after mark and drop.
+pub fn answers_follow_from_the_set()
+    ensures answers { λ _. ⌜ Mark-answers ⌝ }
+    ensures size { λ _. ⌜ Size-counts ⌝ }
+    ensures marked { λ _. ⌜ Mark-counts ⌝ }
+    ensures dropped { λ _. ⌜ Drop-counts ⌝ }
+{}
