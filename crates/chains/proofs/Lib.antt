@@ -1,0 +1,6 @@
+pub mod Links
+pub mod Joins
+pub mod Fits
+pub mod Marking
+pub mod Freeing
+pub mod Sweeping
