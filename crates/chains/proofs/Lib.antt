@@ -4,3 +4,6 @@ pub mod Fits
 pub mod Marking
 pub mod Freeing
 pub mod Sweeping
+pub mod Dropping
+pub mod Clearing
+pub mod Soundness
