@@ -41,9 +41,9 @@ free-linked n a zero lo end = refl
 free-linked n a (suc m) lo end =
     let e = free-at n a lo (omega arith) in
     let next : entry (free-records n) a .next ≡ cond (ltb 0 m) (a + 1) 0 = ap (λ (x : Entry). x .next) e ∙ ⊎-elim
-      (λ (b : a < n). cond-true (ltb a n) (a + 1) 0 (lt-ltb a n b) ∙ sym (cond-true (ltb 0 m) (a + 1) 0 (lt-ltb 0 m (omega arith))))
-      (λ (b : n ≤ a). cond-false (ltb a n) (a + 1) 0 (le-ltb a n b) ∙ sym (cond-false (ltb 0 m) (a + 1) 0 (le-ltb 0 m (omega arith))))
-      (cases-lt a n) in
+    (λ (b : a < n). cond-true (ltb a n) (a + 1) 0 (lt-ltb a n b) ∙ sym (cond-true (ltb 0 m) (a + 1) 0 (lt-ltb 0 m (omega arith))))
+    (λ (b : n ≤ a). cond-false (ltb a n) (a + 1) 0 (le-ltb a n b) ∙ sym (cond-false (ltb 0 m) (a + 1) 0 (le-ltb 0 m (omega arith))))
+    (cases-lt a n) in
     (cond-true (ltb 0 (suc m)) a 0 (lt-ltb 0 (suc m) (omega arith)), lo, omega (arith, long n), subst (λ h. Linked (free-records n) h (counting (a + 1) m)) (sym next) (free-linked n (a + 1) m (omega arith) (omega arith)))
 
 shaped : (n k : ℕ) → length (entry (free-records n) k .nonce) ≡ 32
@@ -89,7 +89,7 @@ unfolding clear-lists
 links n c some le =
     ⊎-elim
     (λ (q : c ≡ 64). subst (λ x. Linked (free-records n) (getD (replicate 64 0 ++ 1 ∷ []) x 0) (clear-lists n x)) (sym q)
-      (subst (λ h. Linked (free-records n) h (counting 1 n)) (first n some) (free-linked n 1 n (omega arith) (omega arith))))
+    (subst (λ h. Linked (free-records n) h (counting 1 n)) (first n some) (free-linked n 1 n (omega arith) (omega arith))))
     (λ (ne : c ≡ 64 → ⊥). subst (Linked (free-records n) (getD (replicate 64 0 ++ 1 ∷ []) c 0)) (sym (clear-empty n c (omega arith))) (heads c (omega arith)))
     (cases-eq c 64)
 

@@ -25,9 +25,9 @@ chain-short t ls c fits le =
     ⊎-elim
     (λ (q : c ≡ 64). subst (λ x. length (ls x) ≤ length (t .entries)) (sym q) (omega (arith, fits .room)))
     (λ (ne : c ≡ 64 → ⊥).
-      let s = split ls 0 64 c (omega arith) (omega arith) in
-      let e = ap length (s .2 ls (λ d lo hi n. refl)) ∙ length-append (s .0) (ls c ++ s .1) in
-      omega (arith, e, length-append (ls c) (s .1), fits .room))
+    let s = split ls 0 64 c (omega arith) (omega arith) in
+    let e = ap length (s .2 ls (λ d lo hi n. refl)) ∙ length-append (s .0) (ls c ++ s .1) in
+    omega (arith, e, length-append (ls c) (s .1), fits .room))
     (cases-eq c 64)
 
 pub fronted-append : (xs ys zs : List ℕ) → fronted (xs ++ ys) zs ≡ fronted ys (fronted xs zs)
@@ -48,24 +48,24 @@ all-refl t [] = tt
 all-refl t (k ∷ ks) = (refl, all-refl t ks)
 
 next-chain : (e c n : ℕ) (t : Table) (ls : ℕ → List ℕ) (u : Table) (ms : ℕ → List ℕ) (v : Table) (ns : ℕ → List ℕ)
-  → c + suc n ≡ 64 → Swept e c t ls [] (ls c) u ms → Sweeps e (c + 1) n u ms v ns → Sweeps e c (suc n) t ls v ns
+    → c + suc n ≡ 64 → Swept e c t ls [] (ls c) u ms → Sweeps e (c + 1) n u ms v ns → Sweeps e c (suc n) t ls v ns
 next-chain e c n t ls u ms v ns end one more =
     let below : c < 64 = omega arith in
     let later : (d : ℕ) → c + 1 ≤ d → d < 64 → All (Same t u) (ls d) = λ d lo hi. subst (All (Same t u)) (one .other d hi (λ q. omega arith)) (one .same d hi) in
     let part : (d : ℕ) → d < 64 → All (Same t u) (ns d) = λ d lt. ⊎-elim
-      (λ (b : d < c + 1). subst (All (Same t u)) (sym (more .behind d b)) (one .same d lt))
-      (λ (a : c + 1 ≤ d). subst (All (Same t u)) (sym (more .ahead d a lt)) (all-kept-by (λ k. not (of u e k)) (Same t u) (ms d) (one .same d lt)))
-      (cases-lt d (c + 1)) in
+    (λ (b : d < c + 1). subst (All (Same t u)) (sym (more .behind d b)) (one .same d lt))
+    (λ (a : c + 1 ≤ d). subst (All (Same t u)) (sym (more .ahead d a lt)) (all-kept-by (λ k. not (of u e k)) (Same t u) (ms d) (one .same d lt)))
+    (cases-lt d (c + 1)) in
     record {
       fits = more .fits;
       behind = λ d b. more .behind d (omega arith) ∙ one .other d (omega arith) (λ q. omega arith);
       ahead = λ d lo hi. ⊎-elim
-        (λ (q : d ≡ c). subst (λ x. ns x ≡ stay t e (ls x)) (sym q) (more .behind c (omega arith) ∙ one .here))
-        (λ (ne : d ≡ c → ⊥). more .ahead d (omega arith) hi ∙ ap (stay u e) (one .other d hi ne) ∙ stay-same t u e (ls d) (later d (omega arith) hi))
-        (cases-eq d c);
+          (λ (q : d ≡ c). subst (λ x. ns x ≡ stay t e (ls x)) (sym q) (more .behind c (omega arith) ∙ one .here))
+          (λ (ne : d ≡ c → ⊥). more .ahead d (omega arith) hi ∙ ap (stay u e) (one .other d hi ne) ∙ stay-same t u e (ls d) (later d (omega arith) hi))
+          (cases-eq d c);
       frees = more .frees ∙ ap (fronted (joined (λ d. go u e (ms d)) (counting (c + 1) n))) (one .frees)
-        ∙ sym (fronted-append (go t e (ls c)) (joined (λ d. go u e (ms d)) (counting (c + 1) n)) (ls 64))
-        ∙ ap (λ w. fronted (go t e (ls c) ++ w) (ls 64)) (agree later);
+          ∙ sym (fronted-append (go t e (ls c)) (joined (λ d. go u e (ms d)) (counting (c + 1) n)) (ls 64))
+          ∙ ap (λ w. fronted (go t e (ls c) ++ w) (ls 64)) (agree later);
       same = λ d lt. all-both (Same u v) (Same t u) (Same t v) (ns d) (λ j p q. p ∙ q) (more .same d lt) (part d lt);
       long = more .long ∙ one .long;
     }
@@ -75,14 +75,17 @@ next-chain e c n t ls u ms v ns end one more =
 
 pub sweeps : (e c n : ℕ) (t : Table) (ls : ℕ → List ℕ) → c + n ≡ 64 → Fits t ls → (ms : ℕ → List ℕ) × Sweeps e c n t ls (swept-from e c n t) ms
 unfolding swept-from
-sweeps e c zero t ls end fits = (ls, record {
-  fits = fits;
-  behind = λ d b. refl;
-  ahead = λ d lo hi. absurd (omega arith);
-  frees = refl;
-  same = λ d lt. all-refl t (ls d);
-  long = refl;
-})
+sweeps e c zero t ls end fits = (
+  ls,
+  record {
+    fits = fits;
+    behind = λ d b. refl;
+    ahead = λ d lo hi. absurd (omega arith);
+    frees = refl;
+    same = λ d lt. all-refl t (ls d);
+    long = refl;
+  },
+)
 sweeps e c (suc n) t ls end fits =
     let below : c < 64 = omega arith in
     let one = sweep e c t ls [] 0 (ls c) (length (t .entries)) (head t c) fits below refl (inl (refl, refl)) (chain-short t ls c fits (omega arith)) (fits .linked c (omega arith)) in

@@ -84,9 +84,9 @@ entry-shaped es zero e l s j = s j
 entry-shaped es (suc k) e l s j =
     ⊎-elim
     (λ (q : j ≡ suc k). ⊎-elim
-      (λ (in′ : suc k ≤ length es). subst (λ x. length (entry (set es k e) x .nonce) ≡ 32) (sym q) (subst (λ (x : Entry). length (x .nonce) ≡ 32) (sym (entry-put-same es (suc k) e (omega arith) in′)) l))
-      (λ (out : suc k ≤ length es → ⊥). subst (λ x. length (entry x j .nonce) ≡ 32) (sym (Rattle.std.proofs.shelf.Lists.set-past es k e (omega arith))) (s j))
-      (dec-le (suc k) (length es)))
+    (λ (in′ : suc k ≤ length es). subst (λ x. length (entry (set es k e) x .nonce) ≡ 32) (sym q) (subst (λ (x : Entry). length (x .nonce) ≡ 32) (sym (entry-put-same es (suc k) e (omega arith) in′)) l))
+    (λ (out : suc k ≤ length es → ⊥). subst (λ x. length (entry x j .nonce) ≡ 32) (sym (Rattle.std.proofs.shelf.Lists.set-past es k e (omega arith))) (s j))
+    (dec-le (suc k) (length es)))
     (λ (ne : j ≡ suc k → ⊥). subst (λ (x : Entry). length (x .nonce) ≡ 32) (sym (entry-put-other es (suc k) j e ne)) (s j))
     (cases-eq j (suc k))
   where

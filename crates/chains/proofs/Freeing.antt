@@ -37,7 +37,7 @@ module _ (t : Table) (ls : ℕ → List ℕ) (c : ℕ) (fits : Fits t ls) (below
 
   pub not-elsewhere : (d : ℕ) → d < 64 → (d ≡ c → ⊥) → Not x (ls d)
   not-elsewhere d lt ne = all-weaker (λ k. chain-of (at t k .nonce) ≡ d) (λ j. j ≡ x → ⊥)
-    (λ j p q. ne (sym p ∙ ap (λ y. chain-of (at t y .nonce)) q ∙ own-chain)) (ls d) (fits .placed d lt)
+      (λ j p q. ne (sym p ∙ ap (λ y. chain-of (at t y .nonce)) q ∙ own-chain)) (ls d) (fits .placed d lt)
 
   pub not-free : Not x (ls 64)
   not-free = (all-right (λ k. Not k (ls 64)) xs (x ∷ ys) (subst (All (λ k. Not k (ls 64))) is (fits .unfree c below))) .0
@@ -53,7 +53,7 @@ pub record Bridge (t : Table) (ls : ℕ → List ℕ) (c : ℕ) (xs : List ℕ) 
   pub there : (d : ℕ) → d ≤ 64 → (d ≡ c → ⊥) → Linked (u .entries) (head t d) (ls d)
 
 pub bridge : (t : Table) (ls : ℕ → List ℕ) (c : ℕ) (pre : List ℕ) (b k : ℕ) (ks : List ℕ)
-  → Fits t ls → c < 64 → ls c ≡ pre ++ k ∷ ks → Before pre b → Bridge t ls c (pre ++ ks) (bridged t c b (at t k .next))
+    → Fits t ls → c < 64 → ls c ≡ pre ++ k ∷ ks → Before pre b → Bridge t ls c (pre ++ ks) (bridged t c b (at t k .next))
 unfolding bridged
 bridge t ls c pre b k ks fits below is (inl none) =
     let u = with-head t c (at t k .next) in
@@ -105,8 +105,7 @@ bridge t ls c pre b k ks fits below is (inr (xs, last)) =
 
 -- the record is freed
 module _ (t : Table) (ls : ℕ → List ℕ) (c : ℕ) (pre : List ℕ) (b k : ℕ) (ks : List ℕ)
-  (fits : Fits t ls) (below : c < 64) (is : ls c ≡ pre ++ k ∷ ks) (before : Before pre b) where
-
+    (fits : Fits t ls) (below : c < 64) (is : ls c ≡ pre ++ k ∷ ks) (before : Before pre b) where
   u : Table
   u = bridged t c b (at t k .next)
 
@@ -162,7 +161,7 @@ module _ (t : Table) (ls : ℕ → List ℕ) (c : ℕ) (pre : List ℕ) (b k : �
   now-is : all-of freed-lists ≡ (parts .0 ++ pre) ++ (ks ++ parts .1)
   unfolding freed-lists
   now-is = parts .2 freed-lists (λ d lo hi ne. moved-other ls c (pre ++ ks) (k ∷ ls 64) below d hi ne)
-    ∙ ap (λ w. parts .0 ++ (w ++ parts .1)) (moved-same ls c (pre ++ ks) (k ∷ ls 64) below) ∙ simp append-assoc
+      ∙ ap (λ w. parts .0 ++ (w ++ parts .1)) (moved-same ls c (pre ++ ks) (k ∷ ls 64) below) ∙ simp append-assoc
 
   pub not-one : (d : ℕ) → d < 64 → Not k (freed-lists d)
   unfolding freed-lists
@@ -177,7 +176,7 @@ module _ (t : Table) (ls : ℕ → List ℕ) (c : ℕ) (pre : List ℕ) (b k : �
 
   apart : Apart (map (pair-at t) (all-of freed-lists))
   apart = subst Apart (sym (ap (map (pair-at t)) now-is ∙ map-append (pair-at t) (parts .0 ++ pre) (ks ++ parts .1)))
-    (apart-remove (map (pair-at t) (parts .0 ++ pre)) (map (pair-at t) (ks ++ parts .1)) (pair-at t k)
+      (apart-remove (map (pair-at t) (parts .0 ++ pre)) (map (pair-at t) (ks ++ parts .1)) (pair-at t k)
       (subst Apart (ap (map (pair-at t)) was ∙ map-append (pair-at t) (parts .0 ++ pre) (k ∷ (ks ++ parts .1))) (fits .apart)))
 
   -- what was placed is still
@@ -195,12 +194,15 @@ module _ (t : Table) (ls : ℕ → List ℕ) (c : ℕ) (pre : List ℕ) (b k : �
   links : (d : ℕ) → d ≤ 64 → Linked (put (u .entries) k e) (head freed-table d) (freed-lists d)
   unfolding freed-lists e u
   links = moved-upto ls c (pre ++ ks) (k ∷ ls 64) below (λ d xs. Linked (put (u .entries) k e) (head freed-table d) xs)
-    (subst (λ h. Linked (put (u .entries) k e) h (pre ++ ks)) (sym (head-other c below)) (linked-frame (u .entries) (head u c) (pre ++ ks) k e not-left (br .here)))
-    (head-free, lk .1, omega (arith, lk .2, br .long, length-put (u .entries) k e),
-      subst (λ (x : Entry). Linked (put (u .entries) k e) (x .next) (ls 64)) (sym there)
-        (subst (λ h. Linked (put (u .entries) k e) h (ls 64)) (sym (br .heads 64 (λ q. omega arith)))
-          (linked-frame (u .entries) (head t 64) (ls 64) k e (not-free t ls c fits below pre k ks is) (br .there 64 (omega arith) (λ q. omega arith)))))
-    (λ d lt ne. subst (λ h. Linked (put (u .entries) k e) h (ls d)) (sym (head-other d lt ∙ br .heads d ne))
+      (subst (λ h. Linked (put (u .entries) k e) h (pre ++ ks)) (sym (head-other c below)) (linked-frame (u .entries) (head u c) (pre ++ ks) k e not-left (br .here))) (
+        head-free,
+        lk .1,
+        omega (arith, lk .2, br .long, length-put (u .entries) k e),
+        subst (λ (x : Entry). Linked (put (u .entries) k e) (x .next) (ls 64)) (sym there)
+            (subst (λ h. Linked (put (u .entries) k e) h (ls 64)) (sym (br .heads 64 (λ q. omega arith)))
+            (linked-frame (u .entries) (head t 64) (ls 64) k e (not-free t ls c fits below pre k ks is) (br .there 64 (omega arith) (λ q. omega arith)))),
+      )
+      (λ d lt ne. subst (λ h. Linked (put (u .entries) k e) h (ls d)) (sym (head-other d lt ∙ br .heads d ne))
       (linked-frame (u .entries) (head t d) (ls d) k e (not-elsewhere t ls c fits below pre k ks is d lt ne) (br .there d (omega arith) ne)))
 
   shapes : (j : ℕ) → length (entry (put (u .entries) k e) j .nonce) ≡ 32
@@ -214,21 +216,22 @@ module _ (t : Table) (ls : ℕ → List ℕ) (c : ℕ) (pre : List ℕ) (b k : �
   places : (d : ℕ) → d < 64 → All (λ j. chain-of (at freed-table j .nonce) ≡ d) (freed-lists d)
   unfolding freed-lists
   places = moved-below ls c (pre ++ ks) (k ∷ ls 64) below (λ d xs. All (λ j. chain-of (at freed-table j .nonce) ≡ d) xs)
-    (placed-all c (pre ++ ks) not-left (kept-c (λ j. chain-of (at t j .nonce) ≡ c) (fits .placed c below)))
-    (λ d lt ne. placed-all d (ls d) (not-elsewhere t ls c fits below pre k ks is d lt ne) (fits .placed d lt))
+      (placed-all c (pre ++ ks) not-left (kept-c (λ j. chain-of (at t j .nonce) ≡ c) (fits .placed c below)))
+      (λ d lt ne. placed-all d (ls d) (not-elsewhere t ls c fits below pre k ks is d lt ne) (fits .placed d lt))
 
   unfrees : (d : ℕ) → d < 64 → All (λ j. Not j (freed-lists 64)) (freed-lists d)
   unfolding freed-lists
   unfrees d lt = subst (λ g. All (λ j. Not j g) (freed-lists d)) (sym (moved-free ls c (pre ++ ks) (k ∷ ls 64) below))
-    (moved-below ls c (pre ++ ks) (k ∷ ls 64) below (λ d xs. All (λ j. Not j (k ∷ ls 64)) xs)
+      (moved-below ls c (pre ++ ks) (k ∷ ls 64) below (λ d xs. All (λ j. Not j (k ∷ ls 64)) xs)
       (unfree-all (pre ++ ks) not-left (kept-c (λ j. Not j (ls 64)) (fits .unfree c below)))
       (λ d lt ne. unfree-all (ls d) (not-elsewhere t ls c fits below pre k ks is d lt ne) (fits .unfree d lt)) d lt)
 
   blanks : All (λ j. (at freed-table j .epoch ≡ 0) × (at freed-table j .nonce ≡ replicate 32 0)) (freed-lists 64)
   unfolding freed-lists freed-table freed u e
-  blanks = subst (All (λ j. (at freed-table j .epoch ≡ 0) × (at freed-table j .nonce ≡ replicate 32 0))) (sym (moved-free ls c (pre ++ ks) (k ∷ ls 64) below))
-    ((ap (λ (x : Entry). x .epoch) there, ap (λ (x : Entry). x .nonce) there),
-     all-pairs (λ p. (p .0 ≡ 0) × (p .1 ≡ replicate 32 0)) (pair-at t) (pair-at freed-table) (ls 64) (same-all (ls 64) (not-free t ls c fits below pre k ks is)) (fits .blank))
+  blanks = subst (All (λ j. (at freed-table j .epoch ≡ 0) × (at freed-table j .nonce ≡ replicate 32 0))) (sym (moved-free ls c (pre ++ ks) (k ∷ ls 64) below)) (
+    (ap (λ (x : Entry). x .epoch) there, ap (λ (x : Entry). x .nonce) there),
+    all-pairs (λ p. (p .0 ≡ 0) × (p .1 ≡ replicate 32 0)) (pair-at t) (pair-at freed-table) (ls 64) (same-all (ls 64) (not-free t ls c fits below pre k ks is)) (fits .blank),
+  )
 
   pub freed-long : length (freed-table .entries) ≡ length (t .entries)
   unfolding freed-table freed u e
@@ -237,18 +240,18 @@ module _ (t : Table) (ls : ℕ → List ℕ) (c : ℕ) (pre : List ℕ) (b k : �
   pub freed-fits : Fits freed-table freed-lists
   unfolding freed-table freed u e
   freed-fits =
-    let fs = moved-free ls c (pre ++ ks) (k ∷ ls 64) below in
-    let count-was = ap length was ∙ length-append (parts .0 ++ pre) (k ∷ (ks ++ parts .1)) in
-    let count-is = ap length now-is ∙ length-append (parts .0 ++ pre) (ks ++ parts .1) in
-    let free-is : length (freed-lists 64) ≡ length (k ∷ ls 64) = free-length in
-    record {
-      wide = length-set (u .heads) 64 k ∙ br .wide;
-      shaped = shapes;
-      linked = links;
-      placed = places;
-      unfree = unfrees;
-      blank = blanks;
-      size = omega (arith, fits .size, br .size, count-was, count-is);
-      room = omega (arith, fits .room, count-was, count-is, br .long, length-put (u .entries) k e, free-is);
-      apart = subst Apart (sym freed-pairs) apart;
-    }
+      let fs = moved-free ls c (pre ++ ks) (k ∷ ls 64) below in
+      let count-was = ap length was ∙ length-append (parts .0 ++ pre) (k ∷ (ks ++ parts .1)) in
+      let count-is = ap length now-is ∙ length-append (parts .0 ++ pre) (ks ++ parts .1) in
+      let free-is : length (freed-lists 64) ≡ length (k ∷ ls 64) = free-length in
+      record {
+        wide = length-set (u .heads) 64 k ∙ br .wide;
+        shaped = shapes;
+        linked = links;
+        placed = places;
+        unfree = unfrees;
+        blank = blanks;
+        size = omega (arith, fits .size, br .size, count-was, count-is);
+        room = omega (arith, fits .room, count-was, count-is, br .long, length-put (u .entries) k e, free-is);
+        apart = subst Apart (sym freed-pairs) apart;
+      }

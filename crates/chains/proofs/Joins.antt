@@ -26,22 +26,28 @@ joined-agree f g a (suc n) s =
 
 -- a list of joined lists with another one in one place
 pub split : (ls : ℕ → List ℕ) (a n c : ℕ) → a ≤ c → c < a + n
-  → (A : List ℕ) × (B : List ℕ) × ((ms : ℕ → List ℕ) → ((d : ℕ) → a ≤ d → d < a + n → (d ≡ c → ⊥) → ms d ≡ ls d) → joined ms (counting a n) ≡ A ++ (ms c ++ B))
+    → (A : List ℕ) × (B : List ℕ) × ((ms : ℕ → List ℕ) → ((d : ℕ) → a ≤ d → d < a + n → (d ≡ c → ⊥) → ms d ≡ ls d) → joined ms (counting a n) ≡ A ++ (ms c ++ B))
 split ls a zero c lo hi = absurd (omega arith)
 split ls a (suc n) c lo hi =
     ⊎-elim
-    (λ (e : a ≡ c).
-      ([], joined ls (counting (a + 1) n), λ ms same.
-        let rest = joined-agree ms ls (a + 1) n (λ d low high. same d (omega arith) (omega arith) (λ q. omega arith)) in
-        let first = ap ms e in
-        cc))
+    (λ (e : a ≡ c). (
+      [],
+      joined ls (counting (a + 1) n),
+      λ ms same.
+          let rest = joined-agree ms ls (a + 1) n (λ d low high. same d (omega arith) (omega arith) (λ q. omega arith)) in
+          let first = ap ms e in
+          cc,
+    ))
     (λ (ne : a ≡ c → ⊥).
-      let more = split ls (a + 1) n c (omega arith) (omega arith) in
-      (ls a ++ more .0, more .1, λ ms same.
-        let rest = more .2 ms (λ d low high. same d (omega arith) (omega arith)) in
-        let first = same a (omega arith) (omega arith) ne in
-        let whole = append-assoc (ls a) (more .0) (ms c ++ more .1) in
-        cc))
+    let more = split ls (a + 1) n c (omega arith) (omega arith) in (
+      ls a ++ more .0,
+      more .1,
+      λ ms same.
+          let rest = more .2 ms (λ d low high. same d (omega arith) (omega arith)) in
+          let first = same a (omega arith) (omega arith) ne in
+          let whole = append-assoc (ls a) (more .0) (ms c ++ more .1) in
+          cc,
+    ))
     (cases-eq a c)
 
 pub all-joined : (P : ℕ → Type 0) (ls : ℕ → List ℕ) (a n : ℕ) → ((d : ℕ) → a ≤ d → d < a + n → All P (ls d)) → All P (joined ls (counting a n))
@@ -58,7 +64,7 @@ others-map f e [] = refl
 others-map f e (k ∷ ks) =
     let r = others-map f e ks in
     elim (not (eqb (f k .0) e)) as (λ b. cond b (f k ∷ others e (map f ks)) (others e (map f ks)) ≡ map f (cond b (k ∷ kept-by (λ j. not (eqb (f j .0) e)) ks) (kept-by (λ j. not (eqb (f j .0) e)) ks)))
-      [ true ↦ ap (λ w. f k ∷ w) r | false ↦ r ]
+    [ true ↦ ap (λ w. f k ∷ w) r | false ↦ r ]
 
 pub kept-same : (t u : ℕ → Bool) (ks : List ℕ) → All (λ k. u k ≡ t k) ks → kept-by u ks ≡ kept-by t ks
 kept-same t u [] a = refl
@@ -66,8 +72,8 @@ kept-same t u (k ∷ ks) a = let e = a .0 in let r = kept-same t u ks (a .1) in 
 
 -- the pairs that pass, list by list
 pub joined-others : (f : ℕ → Pair) (e : ℕ) (ls ms : ℕ → List ℕ) (a n : ℕ)
-  → ((d : ℕ) → a ≤ d → d < a + n → map f (ms d) ≡ others e (map f (ls d)))
-  → map f (joined ms (counting a n)) ≡ others e (map f (joined ls (counting a n)))
+    → ((d : ℕ) → a ≤ d → d < a + n → map f (ms d) ≡ others e (map f (ls d)))
+    → map f (joined ms (counting a n)) ≡ others e (map f (joined ls (counting a n)))
 joined-others f e ls ms a zero s = refl
 joined-others f e ls ms a (suc n) s =
     let here = s a (omega arith) (omega arith) in
@@ -106,40 +112,40 @@ pub apart-insert : (A B : List Pair) (p : Pair) → Apart (A ++ B) → (Has (A +
 apart-insert [] B p apart new = apart-cons p B apart new
 apart-insert (x ∷ A) B p apart new =
     apart-cons x (A ++ p ∷ B)
-      (apart-insert A B p (apart-rest x (A ++ B) apart) (λ h. new (has-there x (A ++ B) p h)))
-      (λ h. ⊎-elim
-        (λ (r : Has (A ++ B) x). apart-head x (A ++ B) apart r)
-        (λ (e : x ≡ p). new (subst (Has (x ∷ (A ++ B))) e (has-here x (A ++ B))))
-        (inserted-cases A B p x h))
+    (apart-insert A B p (apart-rest x (A ++ B) apart) (λ h. new (has-there x (A ++ B) p h)))
+    (λ h. ⊎-elim
+    (λ (r : Has (A ++ B) x). apart-head x (A ++ B) apart r)
+    (λ (e : x ≡ p). new (subst (Has (x ∷ (A ++ B))) e (has-here x (A ++ B))))
+    (inserted-cases A B p x h))
 
 -- a pair is looked for in its own list alone
 pub has-own : (f : ℕ → Pair) (own : Pair → ℕ) (ls : ℕ → List ℕ) (a n : ℕ) (q : Pair)
-  → ((d : ℕ) → a ≤ d → d < a + n → All (λ k. own (f k) ≡ d) (ls d))
-  → Has (map f (joined ls (counting a n))) q → Has (map f (ls (own q))) q
+    → ((d : ℕ) → a ≤ d → d < a + n → All (λ k. own (f k) ≡ d) (ls d))
+    → Has (map f (joined ls (counting a n))) q → Has (map f (ls (own q))) q
 has-own f own ls a zero q placed h = absurd (omega (arith, h .1))
 has-own f own ls a (suc n) q placed h =
     ⊎-elim
     (λ (l : Has (map f (ls a)) q).
-      let e : own q ≡ a = all-has (λ p. own p ≡ a) (map f (ls a)) q (all-map (λ p. own p ≡ a) f (ls a) (placed a (omega arith) (omega arith))) l in
-      subst (λ d. Has (map f (ls d)) q) (sym e) l)
+    let e : own q ≡ a = all-has (λ p. own p ≡ a) (map f (ls a)) q (all-map (λ p. own p ≡ a) f (ls a) (placed a (omega arith) (omega arith))) l in
+    subst (λ d. Has (map f (ls d)) q) (sym e) l)
     (λ (r : Has (map f (joined ls (counting (a + 1) n))) q).
-      has-own f own ls (a + 1) n q (λ d lo hi. placed d (omega arith) (omega arith)) r)
+    has-own f own ls (a + 1) n q (λ d lo hi. placed d (omega arith) (omega arith)) r)
     (has-append-cases (map f (ls a)) (map f (joined ls (counting (a + 1) n))) q
-      (subst (λ w. Has w q) (map-append f (ls a) (joined ls (counting (a + 1) n))) h))
+    (subst (λ w. Has w q) (map-append f (ls a) (joined ls (counting (a + 1) n))) h))
 
 pub own-has : (f : ℕ → Pair) (ls : ℕ → List ℕ) (a n c : ℕ) (q : Pair) → a ≤ c → c < a + n → Has (map f (ls c)) q → Has (map f (joined ls (counting a n))) q
 own-has f ls a n c q lo hi h =
     let s = split ls a n c lo hi in
     let e = s .2 ls (λ d _ _ _. refl) in
     subst (λ w. Has w q)
-      (sym (ap (map f) e ∙ map-append f (s .0) (ls c ++ s .1) ∙ ap (λ w. map f (s .0) ++ w) (map-append f (ls c) (s .1))))
-      (has-append-right (map f (s .0)) (map f (ls c) ++ map f (s .1)) q (has-append-left (map f (ls c)) (map f (s .1)) q h))
+    (sym (ap (map f) e ∙ map-append f (s .0) (ls c ++ s .1) ∙ ap (λ w. map f (s .0) ++ w) (map-append f (ls c) (s .1))))
+    (has-append-right (map f (s .0)) (map f (ls c) ++ map f (s .1)) q (has-append-left (map f (ls c)) (map f (s .1)) q h))
 
 pub apart-remove : (A B : List Pair) (p : Pair) → Apart (A ++ p ∷ B) → Apart (A ++ B)
 apart-remove [] B p apart = apart-rest p B apart
 apart-remove (x ∷ A) B p apart =
     apart-cons x (A ++ B) (apart-remove A B p (apart-rest x (A ++ p ∷ B) apart))
-      (λ h. apart-head x (A ++ p ∷ B) apart (inserted-has A B p x (inl h)))
+    (λ h. apart-head x (A ++ p ∷ B) apart (inserted-has A B p x (inl h)))
 
 -- what holds of each pair holds where the pairs are the same
 pub all-pairs : (P : Pair → Type 0) (f g : ℕ → Pair) (ks : List ℕ) → All (λ j. g j ≡ f j) ks → All (λ j. P (f j)) ks → All (λ j. P (g j)) ks

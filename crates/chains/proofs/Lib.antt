@@ -7,3 +7,4 @@ pub mod Sweeping
 pub mod Dropping
 pub mod Clearing
 pub mod Soundness
+pub mod Steps

@@ -48,10 +48,13 @@ Linked es h (k ∷ ks) = (h ≡ k) × (1 ≤ k) × (k ≤ length es) × Linked e
 
 pub linked-frame : (es : List Entry) (h : ℕ) (ks : List ℕ) (k : ℕ) (e : Entry) → Not k ks → Linked es h ks → Linked (put es k e) h ks
 linked-frame es h [] k e n l = l
-linked-frame es h (j ∷ js) k e n l =
-    (l .0, l .1, omega (arith, l .2, length-put es k e),
-     subst (λ (x : Entry). Linked (put es k e) (x .next) js) (sym (entry-put-other es k j e (n .0)))
-       (linked-frame es (entry es j .next) js k e (n .1) (l .3)))
+linked-frame es h (j ∷ js) k e n l = (
+  l .0,
+  l .1,
+  omega (arith, l .2, length-put es k e),
+  subst (λ (x : Entry). Linked (put es k e) (x .next) js) (sym (entry-put-other es k j e (n .0)))
+      (linked-frame es (entry es j .next) js k e (n .1) (l .3)),
+)
 
 pub linked-walk : (es : List Entry) (h : ℕ) (ks : List ℕ) (f : ℕ) → Linked es h ks → length ks ≤ f → (walk es f h ≡ ks) × (stop es f h ≡ 0)
 unfolding walk stop
@@ -62,9 +65,10 @@ linked-walk es h (k ∷ ks) (suc f) l b =
     let first : h ≡ k = l .0 in
     let some : 1 ≤ k = l .1 in
     let t = ne-eqb h 0 (λ z. omega arith) in
-    let more = linked-walk es (entry es k .next) ks f (l .3) (omega arith) in
-    (cond-false _ _ _ t ∙ ap (λ x. x ∷ walk es f (entry es x .next)) first ∙ ap (λ w. k ∷ w) (more .0),
-     cond-false _ _ _ t ∙ ap (λ x. stop es f (entry es x .next)) first ∙ more .1)
+    let more = linked-walk es (entry es k .next) ks f (l .3) (omega arith) in (
+      cond-false _ _ _ t ∙ ap (λ x. x ∷ walk es f (entry es x .next)) first ∙ ap (λ w. k ∷ w) (more .0),
+      cond-false _ _ _ t ∙ ap (λ x. stop es f (entry es x .next)) first ∙ more .1,
+    )
 
 pub walk-linked : (es : List Entry) (f h : ℕ) → stop es f h ≡ 0 → All (λ k. k ≤ length es) (walk es f h) → Linked es h (walk es f h)
 unfolding walk stop
@@ -72,13 +76,13 @@ walk-linked es zero h s a = s
 walk-linked es (suc f) h s a =
     ⊎-elim
     (λ (t : eqb h 0 ≡ true).
-      subst (Linked es h) (sym (cond-true _ [] (h ∷ walk es f (entry es h .next)) t)) (eqb-true h 0 t))
+    subst (Linked es h) (sym (cond-true _ [] (h ∷ walk es f (entry es h .next)) t)) (eqb-true h 0 t))
     (λ (t : eqb h 0 ≡ false).
-      let w : cond (eqb h 0) [] (h ∷ walk es f (entry es h .next)) ≡ h ∷ walk es f (entry es h .next) = cond-false _ _ _ t in
-      let a′ : All (λ k. k ≤ length es) (h ∷ walk es f (entry es h .next)) = subst (All (λ k. k ≤ length es)) w a in
-      let s′ : stop es f (entry es h .next) ≡ 0 = sym (cond-false _ 0 (stop es f (entry es h .next)) t) ∙ s in
-      let some : h ≡ 0 → ⊥ = eqb-false h 0 t in
-      subst (Linked es h) (sym w) (refl, omega arith, a′ .0, walk-linked es f (entry es h .next) s′ (a′ .1)))
+    let w : cond (eqb h 0) [] (h ∷ walk es f (entry es h .next)) ≡ h ∷ walk es f (entry es h .next) = cond-false _ _ _ t in
+    let a′ : All (λ k. k ≤ length es) (h ∷ walk es f (entry es h .next)) = subst (All (λ k. k ≤ length es)) w a in
+    let s′ : stop es f (entry es h .next) ≡ 0 = sym (cond-false _ 0 (stop es f (entry es h .next)) t) ∙ s in
+    let some : h ≡ 0 → ⊥ = eqb-false h 0 t in
+    subst (Linked es h) (sym w) (refl, omega arith, a′ .0, walk-linked es f (entry es h .next) s′ (a′ .1)))
     (cases-bool (eqb h 0))
 
 -- ---- no record stands in a chain twice
@@ -92,9 +96,10 @@ linked-lengths es h (x ∷ xs) (y ∷ ys) l m =
 
 pub not-again : (es : List Entry) (k : ℕ) (zs : List ℕ) → Linked es k zs → (h : ℕ) (ks : List ℕ) → Linked es h ks → length ks < length zs → Not k ks
 not-again es k zs z h [] l b = tt
-not-again es k zs z h (j ∷ js) l b =
-    (λ e. let m : Linked es k (j ∷ js) = subst (λ x. Linked es x (j ∷ js)) (l .0 ∙ e) l in omega (arith, linked-lengths es k zs (j ∷ js) z m),
-     not-again es k zs z (entry es j .next) js (l .3) (omega arith))
+not-again es k zs z h (j ∷ js) l b = (
+  λ e. let m : Linked es k (j ∷ js) = subst (λ x. Linked es x (j ∷ js)) (l .0 ∙ e) l in omega (arith, linked-lengths es k zs (j ∷ js) z m),
+  not-again es k zs z (entry es j .next) js (l .3) (omega arith),
+)
 
 pub fresh : (es : List Entry) (h k : ℕ) (ks : List ℕ) → Linked es h (k ∷ ks) → Not k ks
 fresh es h k ks l = not-again es k (k ∷ ks) (refl, l .1, l .2, l .3) (entry es k .next) ks (l .3) (omega arith)
@@ -113,15 +118,21 @@ fresh-before es h (x ∷ xs) k ys l =
 pub linked-bridge : (es : List Entry) (h : ℕ) (xs : List ℕ) (b k : ℕ) (ks : List ℕ) (e : Entry) → e .next ≡ entry es k .next → Linked es h (xs ++ b ∷ k ∷ ks) → Linked (put es b e) h (xs ++ b ∷ ks)
 linked-bridge es h [] b k ks e n l =
     let f = fresh es h b (k ∷ ks) l in
-    let there = entry-put-same es b e (l .1) (l .2) in
-    (l .0, l .1, omega (arith, l .2, length-put es b e),
-     subst (λ x. Linked (put es b e) x ks) (sym (ap (λ (x : Entry). x .next) there ∙ n))
-       (linked-frame es (entry es k .next) ks b e (f .1) (l .3 .3)))
+    let there = entry-put-same es b e (l .1) (l .2) in (
+      l .0,
+      l .1,
+      omega (arith, l .2, length-put es b e),
+      subst (λ x. Linked (put es b e) x ks) (sym (ap (λ (x : Entry). x .next) there ∙ n))
+          (linked-frame es (entry es k .next) ks b e (f .1) (l .3 .3)),
+    )
 linked-bridge es h (x ∷ xs) b k ks e n l =
-    let f = all-right (λ j. j ≡ x → ⊥) xs (b ∷ k ∷ ks) (fresh es h x (xs ++ b ∷ k ∷ ks) l) in
-    (l .0, l .1, omega (arith, l .2, length-put es b e),
-     subst (λ (y : Entry). Linked (put es b e) (y .next) (xs ++ b ∷ ks)) (sym (entry-put-other es b x e (λ q. f .0 (sym q))))
-       (linked-bridge es (entry es x .next) xs b k ks e n (l .3)))
+    let f = all-right (λ j. j ≡ x → ⊥) xs (b ∷ k ∷ ks) (fresh es h x (xs ++ b ∷ k ∷ ks) l) in (
+      l .0,
+      l .1,
+      omega (arith, l .2, length-put es b e),
+      subst (λ (y : Entry). Linked (put es b e) (y .next) (xs ++ b ∷ ks)) (sym (entry-put-other es b x e (λ q. f .0 (sym q))))
+          (linked-bridge es (entry es x .next) xs b k ks e n (l .3)),
+    )
 
 -- ---- a chain's end and start
 pub linked-suffix : (es : List Entry) (h : ℕ) (xs ys : List ℕ) → Linked es h (xs ++ ys) → (m : ℕ) × Linked es m ys

@@ -14,8 +14,7 @@ use Rattle.chains.proofs.Joins.{split, all-joined, map-same, apart-insert}
 use Rattle.chains.proofs.Fits.{all-of, pair-at, Fits, moved, moved-same, moved-free, moved-other, moved-below, moved-upto, all-frame, pairs-frame, entry-shaped, chain-below}
 
 module _ (t : Table) (ls : ℕ → List ℕ) (p : Pair) (k : ℕ) (fs : List ℕ)
-  (fits : Fits t ls) (first : ls 64 ≡ k ∷ fs) (nonce : length (p .1) ≡ 32) where
-
+    (fits : Fits t ls) (first : ls 64 ≡ k ∷ fs) (nonce : length (p .1) ≡ 32) where
   c : ℕ
   c = chain-of (p .1)
 
@@ -36,10 +35,10 @@ module _ (t : Table) (ls : ℕ → List ℕ) (p : Pair) (k : ℕ) (fs : List ℕ
   pub mark-is : marked t p ≡ after
   unfolding marked after
   mark-is = ap (λ h. record {
-      heads = set (set (t .heads) 64 (at t h .next)) (chain-of (p .1)) h;
-      size = t .size + 1;
-      entries = put (t .entries) h (record { next = head t (chain-of (p .1)); epoch = p .0; nonce = p .1 });
-    }) (link .0)
+    heads = set (set (t .heads) 64 (at t h .next)) (chain-of (p .1)) h;
+    size = t .size + 1;
+    entries = put (t .entries) h (record { next = head t (chain-of (p .1)); epoch = p .0; nonce = p .1 });
+  }) (link .0)
 
   below : c < 64
   unfolding c
@@ -106,31 +105,31 @@ module _ (t : Table) (ls : ℕ → List ℕ) (p : Pair) (k : ℕ) (fs : List ℕ
   pub mark-fits : (Has (map (pair-at t) (all-of ls)) p → ⊥) → Fits after lists
   unfolding after lists e c
   mark-fits new =
-    let es′ = put (t .entries) k e in
-    let ms = moved ls c (k ∷ ls c) fs in
-    let longer : length es′ ≡ length (t .entries) = length-put (t .entries) k e in
-    let count-was = ap length was ∙ length-append (parts .0) (ls c ++ parts .1) in
-    let count-is = ap length is ∙ length-append (parts .0) (k ∷ (ls c ++ parts .1)) in
-    record {
-      wide = length-set (set (t .heads) 64 (at t k .next)) c k ∙ length-set (t .heads) 64 (at t k .next) ∙ fits .wide;
-      shaped = entry-shaped (t .entries) k e nonce (fits .shaped);
-      linked = moved-upto ls c (k ∷ ls c) fs below (λ d xs. Linked es′ (head after d) xs)
-        (head-here, link .1, omega (arith, link .2, longer), subst (λ (x : Entry). Linked es′ (x .next) (ls c)) (sym there) (linked-frame (t .entries) (head t c) (ls c) k e (not-used c below) (fits .linked c (omega (arith, below)))))
-        (subst (λ h. Linked es′ h fs) (sym head-free) (linked-frame (t .entries) (at t k .next) fs k e not-free (link .3)))
-        (λ d lt ne. subst (λ h. Linked es′ h (ls d)) (sym (head-other d lt ne)) (linked-frame (t .entries) (head t d) (ls d) k e (not-used d lt) (fits .linked d (omega arith))));
-      placed = moved-below ls c (k ∷ ls c) fs below (λ d xs. All (λ j. chain-of (entry es′ j .nonce) ≡ d) xs)
-        (ap (λ (x : Entry). chain-of (x .nonce)) there, all-frame (λ x. chain-of (x .nonce) ≡ c) (t .entries) k e (ls c) (not-used c below) (fits .placed c below))
-        (λ d lt ne. all-frame (λ x. chain-of (x .nonce) ≡ d) (t .entries) k e (ls d) (not-used d lt) (fits .placed d lt));
-      unfree = λ d lt. subst (λ g. All (λ j. Not j g) (ms d)) (sym (moved-free ls c (k ∷ ls c) fs below))
-        (moved-below ls c (k ∷ ls c) fs below (λ d xs. All (λ j. Not j fs) xs)
-          (not-free, fewer c below) (λ d lt ne. fewer d lt) d lt);
-      blank = subst (All (λ j. (entry es′ j .epoch ≡ 0) × (entry es′ j .nonce ≡ replicate 32 0))) (sym (moved-free ls c (k ∷ ls c) fs below))
-        (all-frame (λ x. (x .epoch ≡ 0) × (x .nonce ≡ replicate 32 0)) (t .entries) k e fs not-free
-          ((subst (All (λ j. (at t j .epoch ≡ 0) × (at t j .nonce ≡ replicate 32 0))) first (fits .blank)) .1));
-      size = omega (arith, fits .size, count-was, count-is);
-      room = omega (arith, fits .room, count-was, count-is, longer, ap length (moved-free ls c (k ∷ ls c) fs below), ap length first);
-      apart = subst Apart (sym pairs-after) (apart-insert front back p (subst Apart pairs-before (fits .apart)) (λ h. new (subst (λ w. Has w p) (sym pairs-before) h)));
-    }
+      let es′ = put (t .entries) k e in
+      let ms = moved ls c (k ∷ ls c) fs in
+      let longer : length es′ ≡ length (t .entries) = length-put (t .entries) k e in
+      let count-was = ap length was ∙ length-append (parts .0) (ls c ++ parts .1) in
+      let count-is = ap length is ∙ length-append (parts .0) (k ∷ (ls c ++ parts .1)) in
+      record {
+        wide = length-set (set (t .heads) 64 (at t k .next)) c k ∙ length-set (t .heads) 64 (at t k .next) ∙ fits .wide;
+        shaped = entry-shaped (t .entries) k e nonce (fits .shaped);
+        linked = moved-upto ls c (k ∷ ls c) fs below (λ d xs. Linked es′ (head after d) xs)
+            (head-here, link .1, omega (arith, link .2, longer), subst (λ (x : Entry). Linked es′ (x .next) (ls c)) (sym there) (linked-frame (t .entries) (head t c) (ls c) k e (not-used c below) (fits .linked c (omega (arith, below)))))
+            (subst (λ h. Linked es′ h fs) (sym head-free) (linked-frame (t .entries) (at t k .next) fs k e not-free (link .3)))
+            (λ d lt ne. subst (λ h. Linked es′ h (ls d)) (sym (head-other d lt ne)) (linked-frame (t .entries) (head t d) (ls d) k e (not-used d lt) (fits .linked d (omega arith))));
+        placed = moved-below ls c (k ∷ ls c) fs below (λ d xs. All (λ j. chain-of (entry es′ j .nonce) ≡ d) xs)
+            (ap (λ (x : Entry). chain-of (x .nonce)) there, all-frame (λ x. chain-of (x .nonce) ≡ c) (t .entries) k e (ls c) (not-used c below) (fits .placed c below))
+            (λ d lt ne. all-frame (λ x. chain-of (x .nonce) ≡ d) (t .entries) k e (ls d) (not-used d lt) (fits .placed d lt));
+        unfree = λ d lt. subst (λ g. All (λ j. Not j g) (ms d)) (sym (moved-free ls c (k ∷ ls c) fs below))
+            (moved-below ls c (k ∷ ls c) fs below (λ d xs. All (λ j. Not j fs) xs)
+            (not-free, fewer c below) (λ d lt ne. fewer d lt) d lt);
+        blank = subst (All (λ j. (entry es′ j .epoch ≡ 0) × (entry es′ j .nonce ≡ replicate 32 0))) (sym (moved-free ls c (k ∷ ls c) fs below))
+            (all-frame (λ x. (x .epoch ≡ 0) × (x .nonce ≡ replicate 32 0)) (t .entries) k e fs not-free
+            ((subst (All (λ j. (at t j .epoch ≡ 0) × (at t j .nonce ≡ replicate 32 0))) first (fits .blank)) .1));
+        size = omega (arith, fits .size, count-was, count-is);
+        room = omega (arith, fits .room, count-was, count-is, longer, ap length (moved-free ls c (k ∷ ls c) fs below), ap length first);
+        apart = subst Apart (sym pairs-after) (apart-insert front back p (subst Apart pairs-before (fits .apart)) (λ h. new (subst (λ w. Has w p) (sym pairs-before) h)));
+      }
     where
       fewer : (d : ℕ) → d < 64 → All (λ j. Not j fs) (ls d)
       fewer d lt = all-weaker (λ j. Not j (ls 64)) (λ j. Not j fs) (λ j n. (let m : Not j (k ∷ fs) = subst (Not j) first n in m .1)) (ls d) (fits .unfree d lt)

@@ -59,7 +59,12 @@ module _ (t : Table) (ls : ℕ → List ℕ) (fits : Fits t ls) where
   blanks = λ j b. all-getD (λ k. (at t k .epoch ≡ 0) × (at t k .nonce ≡ replicate 32 0)) (chain t 64) j 0 b (subst (All (λ k. (at t k .epoch ≡ 0) × (at t k .nonce ≡ replicate 32 0))) (sym (chain-is 64 (omega arith))) (fits .blank))
 
   pub sound-from-fits : Sound t
-  sound-from-fits =
-      ((fits .wide, fits .shaped), ended, placed, unfree, blanks,
-       (fits .size ∙ sym (ap length used-is), omega (arith, fits .room, ap length used-is, ap length (chain-is 64 (omega arith)))),
-       subst Apart (sym pairs-is) (fits .apart))
+  sound-from-fits = (
+    (fits .wide, fits .shaped),
+    ended,
+    placed,
+    unfree,
+    blanks,
+    (fits .size ∙ sym (ap length used-is), omega (arith, fits .room, ap length used-is, ap length (chain-is 64 (omega arith)))),
+    subst Apart (sym pairs-is) (fits .apart),
+  )

@@ -34,11 +34,11 @@ Same t u j = pair-at u j ≡ pair-at t j
 
 pub stay-same : (t u : Table) (e : ℕ) (ks : List ℕ) → All (Same t u) ks → stay u e ks ≡ stay t e ks
 stay-same t u e ks a = kept-same (λ k. not (of t e k)) (λ k. not (of u e k)) ks
-  (all-weaker (Same t u) (λ k. not (of u e k) ≡ not (of t e k)) (λ k s. ap (λ (p : Pair). not (eqb (p .0) e)) s) ks a)
+    (all-weaker (Same t u) (λ k. not (of u e k) ≡ not (of t e k)) (λ k s. ap (λ (p : Pair). not (eqb (p .0) e)) s) ks a)
 
 pub go-same : (t u : Table) (e : ℕ) (ks : List ℕ) → All (Same t u) ks → go u e ks ≡ go t e ks
 go-same t u e ks a = kept-same (of t e) (of u e) ks
-  (all-weaker (Same t u) (λ k. of u e k ≡ of t e k) (λ k s. ap (λ (p : Pair). eqb (p .0) e) s) ks a)
+    (all-weaker (Same t u) (λ k. of u e k ≡ of t e k) (λ k s. ap (λ (p : Pair). eqb (p .0) e) s) ks a)
 
 -- what a sweep of the rest of a chain makes
 pub record Swept (e c : ℕ) (t : Table) (ls : ℕ → List ℕ) (pre rest : List ℕ) (u : Table) (ms : ℕ → List ℕ) : Type 0 where
@@ -65,12 +65,12 @@ none e c t ls pre fits is = record {
 
 -- a record that stays
 kept : (e c : ℕ) (t : Table) (ls : ℕ → List ℕ) (pre : List ℕ) (x : ℕ) (ks : List ℕ) (u : Table) (ms : ℕ → List ℕ)
-  → of t e x ≡ false → Swept e c t ls (pre ++ x ∷ []) ks u ms → Swept e c t ls pre (x ∷ ks) u ms
+    → of t e x ≡ false → Swept e c t ls (pre ++ x ∷ []) ks u ms → Swept e c t ls pre (x ∷ ks) u ms
 kept e c t ls pre x ks u ms miss s = record {
   fits = s .fits;
   other = s .other;
   here = s .here ∙ append-assoc pre (x ∷ []) (stay t e ks)
-    ∙ ap (λ w. pre ++ w) (sym (cond-true (not (of t e x)) (x ∷ stay t e ks) (stay t e ks) (not-from-false (of t e x) miss)));
+      ∙ ap (λ w. pre ++ w) (sym (cond-true (not (of t e x)) (x ∷ stay t e ks) (stay t e ks) (not-from-false (of t e x) miss)));
   frees = s .frees ∙ ap (λ w. fronted w (ls 64)) (sym (cond-false (of t e x) (x ∷ go t e ks) (go t e ks) miss));
   same = s .same;
   long = s .long;
@@ -78,10 +78,10 @@ kept e c t ls pre x ks u ms miss s = record {
 
 -- a record that goes
 gone : (e c : ℕ) (t : Table) (ls : ℕ → List ℕ) (pre : List ℕ) (b x : ℕ) (ks : List ℕ) (u : Table) (ms : ℕ → List ℕ)
-  → (fits : Fits t ls) (below : c < 64) (is : ls c ≡ pre ++ x ∷ ks) (before : Before pre b)
-  → of t e x ≡ true
-  → Swept e c (freed-table t ls c pre b x ks fits below is before) (freed-lists t ls c pre b x ks fits below is before) pre ks u ms
-  → Swept e c t ls pre (x ∷ ks) u ms
+    → (fits : Fits t ls) (below : c < 64) (is : ls c ≡ pre ++ x ∷ ks) (before : Before pre b)
+    → of t e x ≡ true
+    → Swept e c (freed-table t ls c pre b x ks fits below is before) (freed-lists t ls c pre b x ks fits below is before) pre ks u ms
+    → Swept e c t ls pre (x ∷ ks) u ms
 unfolding freed-lists
 gone e c t ls pre b x ks u ms fits below is before hit s =
     let v = freed-table t ls c pre b x ks fits below is before in
@@ -94,36 +94,36 @@ gone e c t ls pre b x ks u ms fits below is before hit s =
     let away-ks = all-right (λ j. j ≡ x → ⊥) pre ks away-c in
     let still = sames ks away-ks in
     let left : (d : ℕ) → d < 64 → Not x (ms d) = λ d lt. ⊎-elim
-      (λ (q : d ≡ c). subst (λ z. Not x (ms z)) (sym q) (subst (Not x) (sym (s .here))
-        (all-append (λ j. j ≡ x → ⊥) pre (stay v e ks) away-pre (all-kept-by (λ k. not (of v e k)) (λ j. j ≡ x → ⊥) ks away-ks))))
-      (λ (ne : d ≡ c → ⊥). subst (Not x) (sym (s .other d lt ne)) (away d lt))
-      (cases-eq d c) in
+    (λ (q : d ≡ c). subst (λ z. Not x (ms z)) (sym q) (subst (Not x) (sym (s .here))
+    (all-append (λ j. j ≡ x → ⊥) pre (stay v e ks) away-pre (all-kept-by (λ k. not (of v e k)) (λ j. j ≡ x → ⊥) ks away-ks))))
+    (λ (ne : d ≡ c → ⊥). subst (Not x) (sym (s .other d lt ne)) (away d lt))
+    (cases-eq d c) in
     record {
       fits = s .fits;
       other = λ d lt ne. s .other d lt ne ∙ moved-other ls c (pre ++ ks) (x ∷ ls 64) below d lt ne;
       here = s .here ∙ ap (λ w. pre ++ w) (stay-same t v e ks still
-        ∙ sym (cond-false (not (of t e x)) (x ∷ stay t e ks) (stay t e ks) (not-from-true (of t e x) hit)));
+          ∙ sym (cond-false (not (of t e x)) (x ∷ stay t e ks) (stay t e ks) (not-from-true (of t e x) hit)));
       frees = s .frees ∙ ap (λ w. fronted w (vs 64)) (go-same t v e ks still)
-        ∙ ap (fronted (go t e ks)) (moved-free ls c (pre ++ ks) (x ∷ ls 64) below)
-        ∙ ap (λ w. fronted w (ls 64)) (sym (cond-true (of t e x) (x ∷ go t e ks) (go t e ks) hit));
+          ∙ ap (fronted (go t e ks)) (moved-free ls c (pre ++ ks) (x ∷ ls 64) below)
+          ∙ ap (λ w. fronted w (ls 64)) (sym (cond-true (of t e x) (x ∷ go t e ks) (go t e ks) hit));
       same = λ d lt. all-both (Same v u) (Same t v) (Same t u) (ms d) (λ j p q. p ∙ q) (s .same d lt) (sames (ms d) (left d lt));
       long = s .long ∙ freed-long t ls c pre b x ks fits below is before;
     }
 
 freed-is : (t : Table) (ls : ℕ → List ℕ) (c : ℕ) (pre : List ℕ) (b x : ℕ) (ks : List ℕ) (fits : Fits t ls) (below : c < 64) (is : ls c ≡ pre ++ x ∷ ks) (before : Before pre b)
-  → freed-table t ls c pre b x ks fits below is before ≡ freed (bridged t c b (at t x .next)) x
+    → freed-table t ls c pre b x ks fits below is before ≡ freed (bridged t c b (at t x .next)) x
 unfolding freed-table
 freed-is t ls c pre b x ks fits below is before = refl
 
 lists-c : (t : Table) (ls : ℕ → List ℕ) (c : ℕ) (pre : List ℕ) (b x : ℕ) (ks : List ℕ) (fits : Fits t ls) (below : c < 64) (is : ls c ≡ pre ++ x ∷ ks) (before : Before pre b)
-  → freed-lists t ls c pre b x ks fits below is before c ≡ pre ++ ks
+    → freed-lists t ls c pre b x ks fits below is before c ≡ pre ++ ks
 unfolding freed-lists
 lists-c t ls c pre b x ks fits below is before = moved-same ls c (pre ++ ks) (x ∷ ls 64) below
 
 -- one chain from a record on
 pub sweep : (e c : ℕ) (t : Table) (ls : ℕ → List ℕ) (pre : List ℕ) (b : ℕ) (rest : List ℕ) (f k : ℕ)
-  → Fits t ls → c < 64 → ls c ≡ pre ++ rest → Before pre b → length rest ≤ f → Linked (t .entries) k rest
-  → (ms : ℕ → List ℕ) × Swept e c t ls pre rest (swept e c f b k t) ms
+    → Fits t ls → c < 64 → ls c ≡ pre ++ rest → Before pre b → length rest ≤ f → Linked (t .entries) k rest
+    → (ms : ℕ → List ℕ) × Swept e c t ls pre rest (swept e c f b k t) ms
 unfolding swept
 sweep e c t ls pre b [] zero k fits below is before room l = (ls, none e c t ls pre fits is)
 sweep e c t ls pre b [] (suc f) k fits below is before room l =
@@ -135,19 +135,19 @@ sweep e c t ls pre b (x ∷ ks) (suc f) k fits below is before room l =
     let on = swept e c f x (at t x .next) t in
     let some = ne-eqb x 0 (λ z. omega (arith, l .1)) in
     let whole : Goal (cond (of t e x) off on) = ⊎-elim
-      (λ (hit : of t e x ≡ true).
-        let v = freed-table t ls c pre b x ks fits below is before in
-        let vs = freed-lists t ls c pre b x ks fits below is before in
-        let fits′ = freed-fits t ls c pre b x ks fits below is before in
-        let now-c : vs c ≡ pre ++ ks = lists-c t ls c pre b x ks fits below is before in
-        let tail = linked-suffix (v .entries) (head v c) pre ks (subst (Linked (v .entries) (head v c)) now-c (fits′ .linked c (omega arith))) in
-        let start : tail .0 ≡ at t x .next = linked-start (v .entries) (t .entries) (tail .0) (at t x .next) ks (tail .1) (l .3) in
-        let more = sweep e c v vs pre b ks f (at t x .next) fits′ below now-c before (omega arith) (subst (λ m. Linked (v .entries) m ks) start (tail .1)) in
-        let done : Swept e c t ls pre (x ∷ ks) (swept e c f b (at t x .next) v) (more .0) = gone e c t ls pre b x ks (swept e c f b (at t x .next) v) (more .0) fits below is before hit (more .1) in
-        let off-is : swept e c f b (at t x .next) v ≡ off = ap (swept e c f b (at t x .next)) (freed-is t ls c pre b x ks fits below is before) in
-        subst Goal (off-is ∙ sym (cond-true (of t e x) off on hit)) (more .0, done))
-      (λ (miss : of t e x ≡ false).
-        let more = sweep e c t ls (pre ++ x ∷ []) x ks f (at t x .next) fits below (is ∙ sym (append-assoc pre (x ∷ []) ks)) (inr (pre, refl)) (omega arith) (l .3) in
-        subst Goal (sym (cond-false (of t e x) off on miss)) (more .0, kept e c t ls pre x ks on (more .0) miss (more .1)))
-      (cases-bool (of t e x)) in
+    (λ (hit : of t e x ≡ true).
+    let v = freed-table t ls c pre b x ks fits below is before in
+    let vs = freed-lists t ls c pre b x ks fits below is before in
+    let fits′ = freed-fits t ls c pre b x ks fits below is before in
+    let now-c : vs c ≡ pre ++ ks = lists-c t ls c pre b x ks fits below is before in
+    let tail = linked-suffix (v .entries) (head v c) pre ks (subst (Linked (v .entries) (head v c)) now-c (fits′ .linked c (omega arith))) in
+    let start : tail .0 ≡ at t x .next = linked-start (v .entries) (t .entries) (tail .0) (at t x .next) ks (tail .1) (l .3) in
+    let more = sweep e c v vs pre b ks f (at t x .next) fits′ below now-c before (omega arith) (subst (λ m. Linked (v .entries) m ks) start (tail .1)) in
+    let done : Swept e c t ls pre (x ∷ ks) (swept e c f b (at t x .next) v) (more .0) = gone e c t ls pre b x ks (swept e c f b (at t x .next) v) (more .0) fits below is before hit (more .1) in
+    let off-is : swept e c f b (at t x .next) v ≡ off = ap (swept e c f b (at t x .next)) (freed-is t ls c pre b x ks fits below is before) in
+    subst Goal (off-is ∙ sym (cond-true (of t e x) off on hit)) (more .0, done))
+    (λ (miss : of t e x ≡ false).
+    let more = sweep e c t ls (pre ++ x ∷ []) x ks f (at t x .next) fits below (is ∙ sym (append-assoc pre (x ∷ []) ks)) (inr (pre, refl)) (omega arith) (l .3) in
+    subst Goal (sym (cond-false (of t e x) off on miss)) (more .0, kept e c t ls pre x ks on (more .0) miss (more .1)))
+    (cases-bool (of t e x)) in
     subst (λ z. Goal (swept e c (suc f) b z t)) (sym (l .0)) (subst Goal (sym (cond-false (eqb x 0) t (cond (of t e x) off on) some)) whole)

@@ -101,8 +101,8 @@ swept epoch c zero before k t = t
 swept epoch c (suc steps) before k t =
     cond (eqb k 0) t
     (cond (eqb (at t k .epoch) epoch)
-      (swept epoch c steps before (at t k .next) (freed (bridged t c before (at t k .next)) k))
-      (swept epoch c steps k (at t k .next) t))
+    (swept epoch c steps before (at t k .next) (freed (bridged t c before (at t k .next)) k))
+    (swept epoch c steps k (at t k .next) t))
 
 -- so many chains from one on, in order, each from its front
 unfoldable pub swept-from : ℕ → ℕ → ℕ → Table → Table
