@@ -11,6 +11,7 @@ use Rattle.std.specs.shelf.Lists.{joined}
 use Rattle.std.specs.declared.result.Result.{Result}
 use Rattle.std.specs.declared.result.Result.the-variants.{Ok, Err}
 use Rattle.faults.specs.declared.BookFault.{BookFault}
+use Rattle.faults.specs.declared.BookFault.the-variants.{Spent, Full}
 use Rattle.faults.specs.declared.WireFault.{WireFault}
 use Rattle.faults.specs.declared.WireFault.the-variants.{WrongLength}
 use Rattle.book.specs.Meaning.{Pair, Apart}
@@ -85,6 +86,12 @@ pub record Sound (m : List ℕ) (cap : ℕ) : Type 0 where
   pub laid : Laid m cap
 
 -- ---- what the calls leave
+
+-- mark refuses a pair that is in, then any where the size is the capacity
+abbrev pub Refuses : Result (Unit {0}) BookFault → Type 0 → ℕ → ℕ → Type 0
+Refuses (Ok _) In size cap = (In → ⊥) × (size < cap)
+Refuses (Err Spent) In size cap = In
+Refuses (Err Full) In size cap = (In → ⊥) × (size ≡ cap)
 
 -- mark writes the pair behind the others; a refused one writes nothing
 abbrev pub marked-pairs : Result (Unit {0}) BookFault → List Pair → Pair → List Pair

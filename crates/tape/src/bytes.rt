@@ -6,7 +6,9 @@ ghost use Prim.Native.Nat.{ℕ, _+_, _-_, _*_, _/_, _%_, _^_, _<_, _≤_};
 ghost use lib.ListN.{length, getD};
 ghost use Rattle.std.specs.Orderings.{Decides};
 ghost use Rattle.std.specs.shelf.Lists.{Has};
-ghost use Rattle.tape.specs.Layout.{word, place, pair-at, firsts, pairs-of};
+ghost use Rattle.book.specs.Meaning.{others};
+ghost use Rattle.tape.specs.Layout.{word, place, pair-at, firsts, pairs-of, image, later, Fitting, Sound, Refuses, marked-pairs, marked-image};
+use faults::BookFault;
 
 // The number in two bytes.
 pub fn word_at(m: &[u8], at: usize) -> u16
@@ -78,4 +80,58 @@ pub fn move_pair(m: &mut [u8], from: usize, to: usize)
     ensures others { λ _. ⌜ ((k : ℕ) → (k < to) ⊎ (to + 34 ≤ k) → getD (now (m .exit)) k 0 ≡ getD (now (m .entry)) k 0) ⌝ }
 {
     m.copy_within(from..from + 34, to);
+}
+
+// Zeros the size and every place.
+pub fn clear(m: &mut [u8], cap: u16)
+    requires { ⌜ Fitting (now m) cap ⌝ }
+    ensures sound { λ _. ⌜ Sound (now (m .exit)) cap ⌝ }
+    ensures pairs { λ _. ⌜ pairs-of (now (m .exit)) ≡ [] ⌝ }
+    ensures image { λ _. ⌜ now (m .exit) ≡ image [] cap (later (now (m .entry)) cap) ⌝ }
+{
+    blank(m, 0, 2 + 34 * cap as usize);
+}
+
+// Writes a pair behind the others.
+pub fn mark(m: &mut [u8], cap: u16, epoch: u16, nonce: &[u8; 32]) -> Result<(), BookFault>
+    requires fitting { ⌜ Fitting (now m) cap ⌝ }
+    requires sound { ⌜ Sound (now m) cap ⌝ }
+    ensures sound { λ _. ⌜ Sound (now (m .exit)) cap ⌝ }
+    ensures answer { λ r. ⌜ Refuses r (Has (pairs-of (now (m .entry))) (epoch, now (nonce .entry))) (length (pairs-of (now (m .entry)))) cap ⌝ }
+    ensures pairs { λ r. ⌜ pairs-of (now (m .exit)) ≡ marked-pairs r (pairs-of (now (m .entry))) (epoch, now (nonce .entry)) ⌝ }
+    ensures image { λ r. ⌜ now (m .exit) ≡ marked-image r (now (m .entry)) cap (epoch, now (nonce .entry)) ⌝ }
+{
+    let n = word_at(m, 0);
+    if find(m, n, epoch, nonce) {
+        return Err(BookFault::Spent);
+    }
+    if n == cap {
+        return Err(BookFault::Full);
+    }
+    put_pair(m, 2 + 34 * n as usize, epoch, nonce);
+    put_word(m, 0, n + 1);
+    Ok(())
+}
+
+// Closes the gaps that an epoch's records leave, and answers how many they were.
+pub fn drop_epoch(m: &mut [u8], cap: u16, epoch: u16) -> u16
+    requires fitting { ⌜ Fitting (now m) cap ⌝ }
+    requires sound { ⌜ Sound (now m) cap ⌝ }
+    ensures sound { λ _. ⌜ Sound (now (m .exit)) cap ⌝ }
+    ensures answer { λ r. ⌜ r + length (pairs-of (now (m .exit))) ≡ length (pairs-of (now (m .entry))) ⌝ }
+    ensures pairs { λ _. ⌜ pairs-of (now (m .exit)) ≡ others epoch (pairs-of (now (m .entry))) ⌝ }
+    ensures image { λ _. ⌜ now (m .exit) ≡ image (others epoch (pairs-of (now (m .entry)))) cap (later (now (m .entry)) cap) ⌝ }
+{
+    let n = word_at(m, 0);
+    let mut stay: u16 = 0;
+    for i in 0..n {
+        let from = 2 + 34 * i as usize;
+        if word_at(m, from) != epoch {
+            move_pair(m, from, 2 + 34 * stay as usize);
+            stay += 1;
+        }
+    }
+    blank(m, 2 + 34 * stay as usize, 2 + 34 * n as usize);
+    put_word(m, 0, stay);
+    n - stay
 }
