@@ -35,11 +35,11 @@ pair-kept m n at hm hn same =
     let lm = length-nonce m at hm in
     let ln = length-nonce n at hn in
     let nonces : take 32 (drop (at + 2) n) ≡ take 32 (drop (at + 2) m) =
-      same-lists _ _ (ln ∙ sym lm) (λ k d h.
-        let h32 : k < 32 = omega arith in
-        getD-take 32 (drop (at + 2) n) k d h32 ∙ getD-drop (at + 2) n k d ∙ getD-default n (at + 2 + k) d 0 (omega arith)
-        ∙ same (at + 2 + k) (omega arith) (omega arith)
-        ∙ getD-default m (at + 2 + k) 0 d (omega arith) ∙ sym (getD-drop (at + 2) m k d) ∙ sym (getD-take 32 (drop (at + 2) m) k d h32)) in
+    same-lists _ _ (ln ∙ sym lm) (λ k d h.
+    let h32 : k < 32 = omega arith in
+    getD-take 32 (drop (at + 2) n) k d h32 ∙ getD-drop (at + 2) n k d ∙ getD-default n (at + 2 + k) d 0 (omega arith)
+    ∙ same (at + 2 + k) (omega arith) (omega arith)
+    ∙ getD-default m (at + 2 + k) 0 d (omega arith) ∙ sym (getD-drop (at + 2) m k d) ∙ sym (getD-take 32 (drop (at + 2) m) k d h32)) in
     cc
 
 -- the same 34 bytes elsewhere
@@ -48,19 +48,19 @@ pair-moved m n at to hm hn same =
     let w0 : getD n to 0 ≡ getD m at 0 = simp add-zero at (same 0 (omega arith)) in
     let w1 = same 1 (omega arith) in
     let nonces : take 32 (drop (to + 2) n) ≡ take 32 (drop (at + 2) m) =
-      same-lists _ _ (length-nonce n to hn ∙ sym (length-nonce m at hm)) (λ k d h.
-        let h32 : k < 32 = omega (arith, length-nonce n to hn) in
-        let s : getD n (to + 2 + k) 0 ≡ getD m (at + 2 + k) 0 = rw (add-assoc to 2 k, add-assoc at 2 k) (same (2 + k) (omega arith)) in
-        getD-take 32 (drop (to + 2) n) k d h32 ∙ getD-drop (to + 2) n k d ∙ getD-default n (to + 2 + k) d 0 (omega arith)
-        ∙ s
-        ∙ getD-default m (at + 2 + k) 0 d (omega arith) ∙ sym (getD-drop (at + 2) m k d) ∙ sym (getD-take 32 (drop (at + 2) m) k d h32)) in
+    same-lists _ _ (length-nonce n to hn ∙ sym (length-nonce m at hm)) (λ k d h.
+    let h32 : k < 32 = omega (arith, length-nonce n to hn) in
+    let s : getD n (to + 2 + k) 0 ≡ getD m (at + 2 + k) 0 = rw (add-assoc to 2 k, add-assoc at 2 k) (same (2 + k) (omega arith)) in
+    getD-take 32 (drop (to + 2) n) k d h32 ∙ getD-drop (to + 2) n k d ∙ getD-default n (to + 2 + k) d 0 (omega arith)
+    ∙ s
+    ∙ getD-default m (at + 2 + k) 0 d (omega arith) ∙ sym (getD-drop (at + 2) m k d) ∙ sym (getD-take 32 (drop (at + 2) m) k d h32)) in
     cc
 
 pub firsts-kept : (m n : List ℕ) (c : ℕ) → place c ≤ length m → length n ≡ length m → ((k : ℕ) → 2 ≤ k → k < place c → getD n k 0 ≡ getD m k 0) → firsts n c ≡ firsts m c
 firsts-kept m n c h l same =
     fill-by-all (λ i. pair-at m (place i)) (firsts n c) c (0, []) (length-map-counting (λ i. pair-at n (place i)) 0 c)
-      (λ i b. getD-map-counting (λ j. pair-at n (place j)) 0 c i i _ b (omega arith)
-        ∙ pair-kept m n (place i) (omega arith) (omega arith) (λ k lo hi. same k (omega arith) (omega arith)))
+    (λ i b. getD-map-counting (λ j. pair-at n (place j)) 0 c i i _ b (omega arith)
+    ∙ pair-kept m n (place i) (omega arith) (omega arith) (λ k lo hi. same k (omega arith) (omega arith)))
 
 pub firsts-has : (m : List ℕ) (c i : ℕ) (p : Pair) → i < c → pair-at m (place i) ≡ p → Has (firsts m c) p
 firsts-has m c i p h e = (i, omega (arith, length-map-counting (λ j. pair-at m (place j)) 0 c), λ d. getD-map-counting (λ j. pair-at m (place j)) 0 c i i d h (omega arith) ∙ e)

@@ -39,7 +39,7 @@ record-at : (m : List ℕ) (at : ℕ) → at + 34 ≤ length m → Bytes m → d
 record-at m at h b =
     let on : at + 2 + 32 ≡ at + 34 = omega arith in
     let nonce : drop (at + 2) m ≡ take 32 (drop (at + 2) m) ++ drop (at + 34) m =
-      sym (take-append-drop 32 (drop (at + 2) m)) ∙ ap (λ xs. take 32 (drop (at + 2) m) ++ xs) (drop-drop 32 (at + 2) m ∙ ap (λ i. drop i m) on) in
+    sym (take-append-drop 32 (drop (at + 2) m)) ∙ ap (λ xs. take 32 (drop (at + 2) m) ++ xs) (drop-drop 32 (at + 2) m ∙ ap (λ i. drop i m) on) in
     two-at m at (omega arith) b ∙ ap (λ xs. two (word m at) ++ xs) nonce
 
 records-are : (m : List ℕ) (n : ℕ) → place n ≤ length m → Bytes m → drop 2 m ≡ joined record-of (firsts m n) ++ drop (place n) m
@@ -54,16 +54,16 @@ records-are m (suc n) h b =
     ∙ ap (λ xs. xs ++ drop (place (suc n)) m) (joined-more record-of [] (firsts m n) p ∙ ap (joined record-of) (sym next))
 
 zeros-are : (m : List ℕ) (n cap : ℕ) → n ≤ cap → place cap ≤ length m → ((k : ℕ) → place n ≤ k → k < place cap → getD m k 0 ≡ 0)
-  → drop (place n) m ≡ replicate (34 * (cap - n)) 0 ++ later m cap
+    → drop (place n) m ≡ replicate (34 * (cap - n)) 0 ++ later m cap
 zeros-are m n cap le inside blank =
     let k = 34 * (cap - n) in
     let on : place n + k ≡ place cap = omega arith in
     let long : length (take k (drop (place n) m)) ≡ k = length-take-le k (drop (place n) m) (omega (arith, length-drop (place n) m)) in
     let zeros : take k (drop (place n) m) ≡ replicate k 0 =
-      same-lists _ _ (long ∙ sym (length-replicate k 0)) (λ i d h.
-        let lt : i < k = omega arith in
-        getD-take k (drop (place n) m) i d lt ∙ getD-drop (place n) m i d ∙ getD-default m (place n + i) d 0 (omega arith)
-        ∙ blank (place n + i) (omega arith) (omega arith) ∙ sym (getD-replicate k i 0 d lt)) in
+    same-lists _ _ (long ∙ sym (length-replicate k 0)) (λ i d h.
+    let lt : i < k = omega arith in
+    getD-take k (drop (place n) m) i d lt ∙ getD-drop (place n) m i d ∙ getD-default m (place n + i) d 0 (omega arith)
+    ∙ blank (place n + i) (omega arith) (omega arith) ∙ sym (getD-replicate k i 0 d lt)) in
     sym (take-append-drop k (drop (place n) m))
     ∙ ap (λ xs. xs ++ drop k (drop (place n) m)) zeros
     ∙ ap (λ xs. replicate k 0 ++ xs) (drop-drop k (place n) m ∙ ap (λ i. drop i m) on)
@@ -92,10 +92,10 @@ blank-from-laid m cap fitting within laid k lo hi =
     let n = word m 0 in
     let zeros : List ℕ = replicate (34 * (cap - length ps)) 0 in
     let long : length (two (length ps) ++ joined record-of ps) ≡ place n =
-      omega (arith, length-append (two (length ps)) (joined record-of ps), length-records ps (pairs-shaped m cap fitting within), size-is m) in
+    omega (arith, length-append (two (length ps)) (joined record-of ps), length-records ps (pairs-shaped m cap fitting within), size-is m) in
     let cut : drop (place n) m ≡ zeros ++ later m cap =
-      ap (drop (place n)) (laid ∙ sym (append-assoc (two (length ps)) (joined record-of ps) (zeros ++ later m cap)))
-      ∙ drop-at (two (length ps) ++ joined record-of ps) (zeros ++ later m cap) (place n) long in
+    ap (drop (place n)) (laid ∙ sym (append-assoc (two (length ps)) (joined record-of ps) (zeros ++ later m cap)))
+    ∙ drop-at (two (length ps) ++ joined record-of ps) (zeros ++ later m cap) (place n) long in
     let i = k - place n in
     let at : place n + i ≡ k = omega arith in
     let below : i < 34 * (cap - length ps) = omega (arith, size-is m) in
@@ -107,7 +107,7 @@ blank-from-laid m cap fitting within laid k lo hi =
 pub later-stays : (m n : List ℕ) (cap : ℕ) → length n ≡ length m → ((k : ℕ) → place cap ≤ k → getD n k 0 ≡ getD m k 0) → later n cap ≡ later m cap
 later-stays m n cap l same =
     same-lists _ _ (omega (arith, length-drop (place cap) n, length-drop (place cap) m)) (λ i d h.
-      let inside : place cap + i < length n = omega (arith, length-drop (place cap) n) in
-      getD-drop (place cap) n i d ∙ getD-default n (place cap + i) d 0 inside
-      ∙ same (place cap + i) (omega arith)
-      ∙ getD-default m (place cap + i) 0 d (omega arith) ∙ sym (getD-drop (place cap) m i d))
+    let inside : place cap + i < length n = omega (arith, length-drop (place cap) n) in
+    getD-drop (place cap) n i d ∙ getD-default n (place cap + i) d 0 inside
+    ∙ same (place cap + i) (omega arith)
+    ∙ getD-default m (place cap + i) 0 d (omega arith) ∙ sym (getD-drop (place cap) m i d))

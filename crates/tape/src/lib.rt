@@ -9,6 +9,7 @@
 // fit, at most 1,024; the later bytes are never touched. A station is made over it as over any other book.
 mod bytes;
 mod tape_book;
+
 pub use tape_book::TapeBook;
-// pub use tape_book::TapeIsBook;
+pub use tape_book::TapeIsBook;
 pub use tape_book::capacity_in;

@@ -20,5 +20,6 @@ pub struct TapeBook<'a> {
 }
 
 mod methods;
-// pub use methods::TapeIsBook;
+
+pub use methods::TapeIsBook;
 pub use methods::capacity_in;

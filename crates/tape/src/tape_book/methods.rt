@@ -1,6 +1,7 @@
 // The calls of a tape.
 ghost use mathlib.Core.Path.{_≡_};
 ghost use mathlib.Core.List.{[]};
+ghost use Rattle.std.specs.declared.result.Result.the-variants.{Ok};
 ghost use denote.Ref.{now, name};
 ghost use lib.ListN.{length};
 ghost use Rattle.std.specs.Orderings.{Decides};
@@ -24,4 +25,76 @@ pub fn capacity_in(len: usize) -> Result<u16, WireFault>
     }
     let fit = (len - 2) / 34;
     Ok(fit.min(1024) as u16)
+}
+
+impl<'a> TapeBook<'a> {
+    // An empty book over all of the memory that holds a whole record.
+    pub fn over(memory: &'a mut [u8], capacity: u16) -> TapeBook<'a>
+        requires { ⌜ room-in (length (now memory)) ≡ Ok capacity ⌝ }
+        ensures capacity { λ b. ⌜ b .capacity ≡ capacity ⌝ }
+        ensures pairs { λ b. ⌜ meaning-of b .pairs ≡ [] ⌝ }
+        ensures image { λ b. ⌜ now (b .memory) ≡ image [] capacity (later (now (memory .entry)) capacity) ⌝ }
+    {
+        bytes::clear(memory, capacity);
+        TapeBook { memory, capacity }
+    }
+
+    // The bytes that the book lies in: at all times the image of its pairs.
+    pub fn memory(&self) -> &[u8]
+        ensures bytes { λ r. ⌜ now r ≡ now (now (self .entry) .memory) ⌝ }
+        ensures image { λ r. ⌜ now r ≡ image (meaning-of (now (self .entry)) .pairs) (now (self .entry) .capacity) (later (now r) (now (self .entry) .capacity)) ⌝ }
+    {
+        self.memory
+    }
+}
+
+pub impl<'a> Book for TapeBook<'a> as TapeIsBook {
+    ghost meaning = { meaning-of };
+
+    fn clear(&mut self)
+        ensures meaning { λ _. ⌜ Cleared (meaning-of (now (self .entry))) (meaning-of (now (self .exit))) ⌝ }
+        ensures image { λ _. ⌜ now (now (self .exit) .memory) ≡ image [] (now (self .entry) .capacity) (later (now (now (self .entry) .memory)) (now (self .entry) .capacity)) ⌝ }
+        ensures lender { λ _. ⌜ name (now (self .exit) .memory) ≡ name (now (self .entry) .memory) ⌝ }
+    {
+        let capacity = self.capacity;
+        let memory = mem::replace(&mut self.memory, &mut []);
+        bytes::clear(memory, capacity);
+        self.memory = memory;
+    }
+
+    fn has(&self, epoch: u16, nonce: &[u8; 32]) -> bool {
+        bytes::find(self.memory, bytes::word_at(self.memory, 0), epoch, nonce)
+    }
+
+    fn mark(&mut self, epoch: u16, nonce: &[u8; 32]) -> Result<(), BookFault>
+        ensures meaning { λ r. ⌜ Marked (meaning-of (now (self .entry))) (epoch, now (nonce .entry)) r (meaning-of (now (self .exit))) ⌝ }
+        ensures image { λ r. ⌜ now (now (self .exit) .memory) ≡ marked-image r (now (now (self .entry) .memory)) (now (self .entry) .capacity) (epoch, now (nonce .entry)) ⌝ }
+        ensures lender { λ _. ⌜ name (now (self .exit) .memory) ≡ name (now (self .entry) .memory) ⌝ }
+    {
+        let capacity = self.capacity;
+        let memory = mem::replace(&mut self.memory, &mut []);
+        let marked = bytes::mark(memory, capacity, epoch, nonce);
+        self.memory = memory;
+        marked
+    }
+
+    fn drop_epoch(&mut self, epoch: u16) -> u16
+        ensures meaning { λ r. ⌜ Dropped (meaning-of (now (self .entry))) epoch r (meaning-of (now (self .exit))) ⌝ }
+        ensures image { λ _. ⌜ now (now (self .exit) .memory) ≡ image (others epoch (meaning-of (now (self .entry)) .pairs)) (now (self .entry) .capacity) (later (now (now (self .entry) .memory)) (now (self .entry) .capacity)) ⌝ }
+        ensures lender { λ _. ⌜ name (now (self .exit) .memory) ≡ name (now (self .entry) .memory) ⌝ }
+    {
+        let capacity = self.capacity;
+        let memory = mem::replace(&mut self.memory, &mut []);
+        let dropped = bytes::drop_epoch(memory, capacity, epoch);
+        self.memory = memory;
+        dropped
+    }
+
+    fn size(&self) -> u16 {
+        bytes::word_at(self.memory, 0)
+    }
+
+    fn capacity(&self) -> u16 {
+        self.capacity
+    }
 }

@@ -18,8 +18,8 @@ returns c =
     let long : length (c .fill .last .self) ≡ to - from = ap length zeros ∙ length-replicate n 0 ∙ n-is in
     record {
       zero = λ k lo hi.
-        put-inside m (c .fill .last .self) from (to - from) k (omega arith) long lo (omega arith)
-        ∙ ap (λ ys. lib.ListN.getD ys (k - from) 0) zeros ∙ getD-replicate n (k - from) 0 0 (omega arith);
+          put-inside m (c .fill .last .self) from (to - from) k (omega arith) long lo (omega arith)
+          ∙ ap (λ ys. lib.ListN.getD ys (k - from) 0) zeros ∙ getD-replicate n (k - from) 0 0 (omega arith);
       others = λ k s. put-outside m (c .fill .last .self) from (to - from) k (omega arith) long
-        (⊎-elim (λ (b : k < from). inl b) (λ (b : to ≤ k). inr (omega arith)) s);
+          (⊎-elim (λ (b : k < from). inl b) (λ (b : to ≤ k). inr (omega arith)) s);
     }

@@ -28,16 +28,16 @@ loop-i-again c =
     let inside : place n ≤ length m0 = omega (arith, c .pre .sound .within) in
     let Goal : List ℕ → ℕ → Type 0 = λ x s. (s ≤ i + 1) × (firsts x s ≡ others e (firsts m0 (i + 1))) × ((k : ℕ) → place (i + 1) ≤ k → getD x k 0 ≡ getD m0 k 0) in
     let at-ways : (x : List ℕ) (s : ℕ) → c .if-word-at-epoch .m ≡ x → c .if-word-at-epoch .stay ≡ s → Goal x s → Goal (c .if-word-at-epoch .m) (c .if-word-at-epoch .stay) =
-      λ x s p q h. subst (λ y. Goal y (c .if-word-at-epoch .stay)) (sym p) (subst (Goal x) (sym q) h) in
+    λ x s p q h. subst (λ y. Goal y (c .if-word-at-epoch .stay)) (sym p) (subst (Goal x) (sym q) h) in
     elim (c .if-word-at-epoch .came) [
-      then-word-at-epoch w ↦
-        let m′ = w .move-pair .last .m in
-        let long′ : length m′ ≡ length m0 = omega (arith, w .move-pair .kept .m) in
-        let k : firsts m′ (stay + 1) ≡ others e (firsts m0 (i + 1)) =
+      | then-word-at-epoch w ↦
+          let m′ = w .move-pair .last .m in
+          let long′ : length m′ ≡ length m0 = omega (arith, w .move-pair .kept .m) in
+          let k : firsts m′ (stay + 1) ≡ others e (firsts m0 (i + 1)) =
           keep-here m0 m m′ e i stay n (omega arith) inside long long′ (inv .0) (inv .1) (inv .2) (λ q. w .if-word-at-epoch .taken (read ∙ q)) (w .move-pair .ensures .there) (w .move-pair .ensures .others) in
-        at-ways m′ (stay + 1) (w .m-is) (w .stay-is) (omega arith, k, λ j h. w .move-pair .ensures .others j (inr (omega arith)) ∙ inv .2 j (omega arith))
-    | else-word-at-epoch w ↦
-        at-ways m stay (w .m-is) (w .stay-is) (omega arith, drop-here m0 m m e i stay n (omega arith) inside long long (inv .0) (inv .1) (inv .2) (sym read ∙ w .if-word-at-epoch .left), λ j h. inv .2 j (omega arith))
+          at-ways m′ (stay + 1) (w .m-is) (w .stay-is) (omega arith, k, λ j h. w .move-pair .ensures .others j (inr (omega arith)) ∙ inv .2 j (omega arith))
+      | else-word-at-epoch w ↦
+          at-ways m stay (w .m-is) (w .stay-is) (omega arith, drop-here m0 m m e i stay n (omega arith) inside long long (inv .0) (inv .1) (inv .2) (sym read ∙ w .if-word-at-epoch .left), λ j h. inv .2 j (omega arith))
     ]
 
 pub returns : need.returns
