@@ -22,4 +22,7 @@ pub struct TapeBook<'a> {
 mod methods;
 
 pub use methods::TapeIsBook;
+pub use methods::capacities_are_worked;
 pub use methods::capacity_in;
+pub use methods::image_tells_the_pairs;
+pub use methods::with_book;

@@ -3,14 +3,17 @@ ghost use mathlib.Core.Path.{_≡_};
 ghost use mathlib.Core.List.{[]};
 ghost use Rattle.std.specs.declared.result.Result.the-variants.{Ok};
 ghost use denote.Ref.{now, name};
+ghost use Prim.Native.Nat.{_<_};
 ghost use lib.ListN.{length};
-ghost use Rattle.std.specs.Orderings.{Decides};
-ghost use Rattle.book.specs.Meaning.{In, size-of, Cleared, Marked, Dropped, others};
-ghost use Rattle.tape.specs.Layout.{room-in, RoomIn, image, pairs-of, later, marked-image};
+ghost use Rattle.book.specs.Meaning.{Cleared, Marked, Dropped, others};
+ghost use Rattle.book.specs.Making.{Worked};
+ghost use Rattle.tape.specs.Layout.{room-in, image, later, marked-image};
+ghost use Rattle.tape.specs.Laws.{Most, Read-back, One-image, Capacities};
 ghost use Rattle.tape.specs.Books.{meaning-of};
 use super::TapeBook;
 use crate::bytes;
 use book::Book;
+use book::Work;
 use faults::BookFault;
 use faults::WireFault;
 use std::mem;
@@ -18,13 +21,27 @@ use std::mem;
 // How many pairs memory of this length takes: as many records as fit, at most 1,024. Memory without a whole
 // record is refused as a wrong length.
 pub fn capacity_in(len: usize) -> Result<u16, WireFault>
-    ensures { λ r. ⌜ r ≡ room-in len ⌝ }
+    ensures answer { λ r. ⌜ r ≡ room-in len ⌝ }
+    ensures most { λ r. ⌜ Most len r ⌝ }
 {
     if len < 36 {
         return Err(WireFault::WrongLength);
     }
     let fit = (len - 2) / 34;
     Ok(fit.min(1024) as u16)
+}
+
+// The capacities at the edges: below one record, one, two, and the most.
+pub fn capacities_are_worked()
+    ensures { λ _. ⌜ Capacities ⌝ }
+{
+}
+
+// The image and the pairs settle one another.
+pub fn image_tells_the_pairs()
+    ensures back { λ _. ⌜ Read-back ⌝ }
+    ensures one { λ _. ⌜ One-image ⌝ }
+{
 }
 
 impl<'a> TapeBook<'a> {
@@ -34,6 +51,7 @@ impl<'a> TapeBook<'a> {
         ensures capacity { λ b. ⌜ b .capacity ≡ capacity ⌝ }
         ensures pairs { λ b. ⌜ meaning-of b .pairs ≡ [] ⌝ }
         ensures image { λ b. ⌜ now (b .memory) ≡ image [] capacity (later (now (memory .entry)) capacity) ⌝ }
+        ensures lender { λ b. ⌜ name (b .memory) ≡ name (memory .entry) ⌝ }
     {
         bytes::clear(memory, capacity);
         TapeBook { memory, capacity }
@@ -46,6 +64,16 @@ impl<'a> TapeBook<'a> {
     {
         self.memory
     }
+}
+
+// Does a piece of work on a fresh book over the memory. Memory without a whole record is refused as a wrong
+// length, and is left as it is.
+pub fn with_book<W: Work + Drop>(memory: &mut [u8], work: W) -> Result<W::Answer, WireFault>
+    ensures answer { λ r. ⌜ Worked (W·Work .told work) (room-in (length (now (memory .entry)))) r ⌝ }
+    ensures stays { λ r. ⌜ (length (now (memory .entry)) < 36 → now (memory .exit) ≡ now (memory .entry)) ⌝ }
+{
+    let capacity = capacity_in(memory.len())?;
+    Ok(work.on(TapeBook::over(memory, capacity)))
 }
 
 pub impl<'a> Book for TapeBook<'a> as TapeIsBook {
