@@ -19,11 +19,11 @@ pair-read m rest at p is shaped =
     let low : getD m (at + 1) 0 ≡ p .0 % 256 = sym (getD-drop at m 1 0) ∙ ap (λ xs. getD xs 1 0) is in
     let epoch : word m at ≡ p .0 = (λ i. high i * 256 + low i) ∙ div-add-mod' (p .0) 256 in
     let nonce : take 32 (drop (at + 2) m) ≡ p .1 =
-      ap (take 32) (sym (drop-drop 2 at m) ∙ ap (drop 2) is) ∙ take-at (p .1) rest 32 shaped in
+    ap (take 32) (sym (drop-drop 2 at m) ∙ ap (drop 2) is) ∙ take-at (p .1) rest 32 shaped in
     (λ i. (epoch i, nonce i))
 
 records-read : (ps : List Pair) (m rest : List ℕ) (i : ℕ) → drop (place i) m ≡ joined record-of ps ++ rest → All Shaped ps
-  → map (λ j. pair-at m (place j)) (counting i (length ps)) ≡ ps
+    → map (λ j. pair-at m (place j)) (counting i (length ps)) ≡ ps
 records-read [] m rest i is all = refl
 records-read (p ∷ ps) m rest i is all =
     let tail = joined record-of ps ++ rest in
@@ -31,7 +31,7 @@ records-read (p ∷ ps) m rest i is all =
     let on : place i + 34 ≡ place (i + 1) = omega arith in
     let long : length (record-of p) ≡ 34 = ap (λ n. suc (suc n)) (all .0) in
     let next : drop (place (i + 1)) m ≡ tail =
-      ap (λ k. drop k m) (sym on) ∙ sym (drop-drop 34 (place i) m) ∙ ap (drop 34) split ∙ drop-at (record-of p) tail 34 long in
+    ap (λ k. drop k m) (sym on) ∙ sym (drop-drop 34 (place i) m) ∙ ap (drop 34) split ∙ drop-at (record-of p) tail 34 long in
     (λ k. pair-read m tail (place i) p split (all .0) k ∷ records-read ps m rest (i + 1) next (all .1) k)
 
 pub read-back : Read-back

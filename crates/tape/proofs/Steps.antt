@@ -1,5 +1,5 @@
 -- What the writes of a clear, a mark and a drop leave of a tape. Assumes nothing.
-use mathlib.Core.Path.{_≡_, refl, sym, ap, subst, _∙_}
+use mathlib.Core.Path.{_≡_, sym, ap, subst, _∙_}
 use mathlib.Core.List.{List, [], _∷_, _++_}
 use mathlib.Core.Logic.{_⊎_, inl, inr, ⊎-elim}
 use mathlib.Core.Bool.{true, false, cond, not}
@@ -7,12 +7,12 @@ use Prim.Native.Nat.{ℕ, _+_, _*_, _<_, _≤_}
 use native.Mathlib.Omega.{arith}
 use lib.Dec.{eqb}
 use lib.ListN.{length, getD}
-use Rattle.std.specs.shelf.Lists.{Has, kept-by}
+use Rattle.std.specs.shelf.Lists.{Has}
 use Rattle.std.proofs.shelf.Tests.{cases-lt, not-from-true, not-from-false, eq-eqb, ne-eqb}
 use Rattle.std.proofs.shelf.Lists.{append-nil}
 use Rattle.std.proofs.shelf.Counted.{map-counting-more, kept-by-map-counting-more}
 use Rattle.book.specs.Meaning.{Pair, Apart, others}
-use Rattle.book.proofs.Sets.{apart-none, apart-push, apart-kept}
+use Rattle.book.proofs.Sets.{apart-push, apart-kept}
 use Rattle.tape.specs.Layout.{image, word, place, pair-at, firsts, pairs-of, later, Fitting, Laid, Sound}
 use Rattle.tape.proofs.Frames.{pair-kept, pair-moved, firsts-kept}
 use Rattle.tape.proofs.Images.{Bytes, Blank, laid-from-blank, blank-from-laid, later-stays}
@@ -22,28 +22,17 @@ module _ (m0 m : List ℕ) (cap : ℕ) (ps : List Pair)
     (fitting : Fitting m0 cap) (long : length m ≡ length m0) (bytes : Bytes m)
     (within : word m 0 ≤ cap) (blank : Blank m cap) (pairs : pairs-of m ≡ ps) (apart : Apart ps)
     (past : (k : ℕ) → place cap ≤ k → getD m k 0 ≡ getD m0 k 0) where
-  laid-again : Laid m cap
-  laid-again = let inside = fitting .2 in laid-from-blank m cap (fitting .0, fitting .1, omega arith) within bytes blank
-
-  pub sound-again : Sound m cap
-  sound-again = record { within = within; apart = subst Apart (sym pairs) apart; laid = laid-again }
-
-  pub image-again : m ≡ image ps cap (later m0 cap)
-  image-again = laid-again ∙ (λ i. image (pairs i) cap (later-stays m0 m cap long past i))
+  pub sound-again : Sound m cap × (m ≡ image ps cap (later m0 cap))
+  sound-again =
+      let inside = fitting .2 in
+      let laid : Laid m cap = laid-from-blank m cap (fitting .0, fitting .1, omega arith) within bytes blank in (
+        record { within = within; apart = subst Apart (sym pairs) apart; laid = laid },
+        laid ∙ (λ i. image (pairs i) cap (later-stays m0 m cap long past i)),
+      )
 
 -- ---- clear: zeros up to the capacity
-module _ (m0 m : List ℕ) (cap : ℕ) (zeros : (k : ℕ) → 0 ≤ k → k < place cap → getD m k 0 ≡ 0) where
-  no-size : word m 0 ≡ 0
-  no-size = let a = zeros 0 (omega arith) (omega arith) in let b = zeros 1 (omega arith) (omega arith) in omega arith
-
-  pub cleared-pairs : pairs-of m ≡ []
-  cleared-pairs = ap (firsts m) no-size
-
-  pub cleared-within : word m 0 ≤ cap
-  cleared-within = let e = no-size in omega arith
-
-  pub cleared-blank : Blank m cap
-  cleared-blank k lo hi = zeros k (omega arith) hi
+pub zeroed-size : (m : List ℕ) (cap : ℕ) → ((k : ℕ) → 0 ≤ k → k < place cap → getD m k 0 ≡ 0) → word m 0 ≡ 0
+zeroed-size m cap zeros = let a = zeros 0 (omega arith) (omega arith) in let b = zeros 1 (omega arith) (omega arith) in omega arith
 
 -- ---- mark: a record behind the others, and then the size
 module _ (m0 m1 m2 : List ℕ) (cap n e : ℕ) (v : List ℕ)
@@ -56,7 +45,7 @@ module _ (m0 m1 m2 : List ℕ) (cap n e : ℕ) (v : List ℕ)
   inside : place cap ≤ length m0
   inside = fitting .2
 
-  pub pushed : pairs-of m2 ≡ pairs-of m0 ++ (e, v) ∷ []
+  pushed : pairs-of m2 ≡ pairs-of m0 ++ (e, v) ∷ []
   pushed =
       let fits = inside in
       let last : _≡_ {A = Pair} (pair-at m2 (place n)) (e, v) =
@@ -68,11 +57,16 @@ module _ (m0 m1 m2 : List ℕ) (cap n e : ℕ) (v : List ℕ)
       let size0 : firsts m0 n ≡ firsts m0 (word m0 0) = ap (firsts m0) size in
       cc
 
-  pub pushed-blank : Blank m2 cap
+  pushed-blank : Blank m2 cap
   pushed-blank k lo hi = kept k (inr (omega arith)) ∙ outside k (inr (omega arith)) ∙ blank-from-laid m0 cap fitting (sound .within) (sound .laid) k (omega arith) hi
 
-  pub pushed-past : (k : ℕ) → place cap ≤ k → getD m2 k 0 ≡ getD m0 k 0
+  pushed-past : (k : ℕ) → place cap ≤ k → getD m2 k 0 ≡ getD m0 k 0
   pushed-past k h = kept k (inr (omega arith)) ∙ outside k (inr (omega arith))
+
+  pub marked-sound : Bytes m2 → (Has (pairs-of m0) (e, v) → ⊥) → (pairs-of m2 ≡ pairs-of m0 ++ (e, v) ∷ []) × Sound m2 cap × (m2 ≡ image (pairs-of m0 ++ (e, v) ∷ []) cap (later m0 cap))
+  marked-sound bytes new =
+      let again = sound-again m0 m2 cap (pairs-of m0 ++ (e, v) ∷ []) fitting long2 bytes (omega arith) pushed-blank pushed (apart-push (pairs-of m0) (e, v) (sound .apart) new) pushed-past in
+      (pushed, again .0, again .1)
 
 -- ---- drop: a turn of its loop
 module _ (m0 m m′ : List ℕ) (e i stay n : ℕ)
@@ -114,22 +108,26 @@ module _ (m0 m m1 m2 : List ℕ) (cap e stay n : ℕ)
   full : n ≤ cap
   full = let w = sound .within in omega arith
 
-  pub dropped-pairs : pairs-of m2 ≡ others e (pairs-of m0)
+  dropped-pairs : pairs-of m2 ≡ others e (pairs-of m0)
   dropped-pairs =
       let le = full in
       let inside = fitting .2 in
       let same : firsts m2 stay ≡ firsts m stay = firsts-kept m m2 stay (omega arith) (long2 ∙ sym long) (λ k lo hi. kept k (inr lo) ∙ outside k (inl hi)) in
       ap (firsts m2) shrunk ∙ same ∙ front ∙ ap (λ c. others e (firsts m0 c)) size
 
-  pub dropped-blank : Blank m2 cap
+  dropped-blank : Blank m2 cap
   dropped-blank k lo hi =
       kept k (inr (omega arith)) ∙ ⊎-elim
       (λ (b : k < place n). zeros k (omega arith) b)
       (λ (b : place n ≤ k). outside k (inr b) ∙ rest k b ∙ blank-from-laid m0 cap fitting (sound .within) (sound .laid) k (omega arith) hi)
       (cases-lt k (place n))
 
-  pub dropped-past : (k : ℕ) → place cap ≤ k → getD m2 k 0 ≡ getD m0 k 0
+  dropped-past : (k : ℕ) → place cap ≤ k → getD m2 k 0 ≡ getD m0 k 0
   dropped-past k h = let le = full in kept k (inr (omega arith)) ∙ outside k (inr (omega arith)) ∙ rest k (omega arith)
 
-  pub dropped-within : word m2 0 ≤ cap
-  dropped-within = let le = full in omega arith
+  pub dropped-sound : Bytes m2 → (pairs-of m2 ≡ others e (pairs-of m0)) × Sound m2 cap × (m2 ≡ image (others e (pairs-of m0)) cap (later m0 cap))
+  dropped-sound bytes =
+      let le = full in
+      let again = sound-again m0 m2 cap (others e (pairs-of m0)) fitting long2 bytes (omega arith) dropped-blank dropped-pairs
+      (apart-kept (λ p. not (eqb (p .0) e)) (pairs-of m0) (sound .apart)) dropped-past in
+      (dropped-pairs, again .0, again .1)

@@ -28,4 +28,4 @@ One-image = (m n : List ℕ) (cap : ℕ) → Sound m cap → Sound n cap → pai
 -- Capacities worked out.
 abbrev pub Capacities : Type 0
 Capacities = (room-in 0 ≡ Err WrongLength) × (room-in 35 ≡ Err WrongLength) × (room-in 36 ≡ Ok 1) × (room-in 69 ≡ Ok 1) × (room-in 70 ≡ Ok 2)
-  × (room-in 34817 ≡ Ok 1023) × (room-in 34818 ≡ Ok 1024) × (room-in 65536 ≡ Ok 1024)
+    × (room-in 34817 ≡ Ok 1023) × (room-in 34818 ≡ Ok 1024) × (room-in 65536 ≡ Ok 1024)

@@ -34,15 +34,13 @@ pub fn capacity_in(len: usize) -> Result<u16, WireFault>
 // The capacities at the edges: below one record, one, two, and the most.
 pub fn capacities_are_worked()
     ensures { λ _. ⌜ Capacities ⌝ }
-{
-}
+{}
 
 // The image and the pairs settle one another.
 pub fn image_tells_the_pairs()
     ensures back { λ _. ⌜ Read-back ⌝ }
     ensures one { λ _. ⌜ One-image ⌝ }
-{
-}
+{}
 
 impl<'a> TapeBook<'a> {
     // An empty book over all of the memory that holds a whole record.

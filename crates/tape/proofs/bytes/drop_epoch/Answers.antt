@@ -1,16 +1,13 @@
 use mathlib.Core.Logic.{inr}
 use mathlib.Core.Path.{_≡_, ap, sym, subst, _∙_}
-use mathlib.Core.Bool.{not}
 use mathlib.Core.List.{List}
 use Prim.Native.Nat.{ℕ, _+_, _≤_}
 use native.Mathlib.Omega.{arith}
-use lib.Dec.{eqb}
 use lib.ListN.{length, getD}
 use Rattle.book.specs.Meaning.{others}
-use Rattle.book.proofs.Sets.{apart-kept}
-use Rattle.tape.specs.Layout.{firsts, pairs-of, place}
+use Rattle.tape.specs.Layout.{firsts, place}
 use Rattle.tape.specs.Facts.{size-is}
-use Rattle.tape.proofs.Steps.{sound-again, image-again, drop-here, keep-here, dropped-pairs, dropped-blank, dropped-past, dropped-within}
+use Rattle.tape.proofs.Steps.{drop-here, keep-here, dropped-sound}
 use Rattle.tape.proofs.bytes.drop_epoch.Needs as need
 use Rattle.tape.proofs.bytes.drop_epoch.Needs.{then-word-at-epoch, else-word-at-epoch}
 
@@ -57,14 +54,11 @@ returns c =
     let long : length m ≡ length m0 = omega arith in
     let long2 : length m2 ≡ length m0 = omega arith in
     let behind : stay ≤ n = omega arith in
-    let pairs = dropped-pairs m0 m m1 m2 cap e stay n (c .word-at-n .ensures) long long2 (c .pre .fitting) (c .pre .sound) behind front rest (c .blank .ensures .zero) (c .blank .ensures .others) (c .put-word .ensures .there) (c .put-word .ensures .others) in
-    let blank = dropped-blank m0 m m1 m2 cap e stay n (c .word-at-n .ensures) long long2 (c .pre .fitting) (c .pre .sound) behind front rest (c .blank .ensures .zero) (c .blank .ensures .others) (c .put-word .ensures .there) (c .put-word .ensures .others) in
-    let past = dropped-past m0 m m1 m2 cap e stay n (c .word-at-n .ensures) long long2 (c .pre .fitting) (c .pre .sound) behind front rest (c .blank .ensures .zero) (c .blank .ensures .others) (c .put-word .ensures .there) (c .put-word .ensures .others) in
-    let within = dropped-within m0 m m1 m2 cap e stay n (c .word-at-n .ensures) long long2 (c .pre .fitting) (c .pre .sound) behind front rest (c .blank .ensures .zero) (c .blank .ensures .others) (c .put-word .ensures .there) (c .put-word .ensures .others) in
-    let apart = apart-kept (λ p. not (eqb (p .0) e)) (pairs-of m0) (c .pre .sound .apart) in
+    let done = dropped-sound m0 m m1 m2 cap e stay n (c .word-at-n .ensures) long long2 (c .pre .fitting) (c .pre .sound) behind front rest (c .blank .ensures .zero) (c .blank .ensures .others)
+    (c .put-word .ensures .there) (c .put-word .ensures .others) (c .typed .m) in
     record {
-      sound = sound-again m0 m2 cap (others e (pairs-of m0)) (c .pre .fitting) long2 (c .typed .m) within blank pairs apart past;
+      sound = done .1;
       answer = omega (arith, size-is m0, size-is m2, c .word-at-n .ensures, c .put-word .ensures .there);
-      pairs = pairs;
-      image = image-again m0 m2 cap (others e (pairs-of m0)) (c .pre .fitting) long2 (c .typed .m) within blank pairs apart past;
+      pairs = done .0;
+      image = done .2;
     }

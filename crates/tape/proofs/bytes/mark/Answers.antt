@@ -1,15 +1,13 @@
 use mathlib.Core.Path.{_≡_, refl, sym, subst}
-use mathlib.Core.List.{[], _∷_, _++_}
-use Prim.Native.Nat.{_<_, _≤_}
+use Prim.Native.Nat.{_<_}
 use native.Mathlib.Omega.{arith}
 use lib.ListN.{length}
 use Rattle.std.specs.shelf.Lists.{Has}
 use Rattle.std.proofs.shelf.Ways.{not-from-decides}
 use Rattle.book.specs.Meaning.{Pair}
-use Rattle.book.proofs.Sets.{apart-push}
-use Rattle.tape.specs.Layout.{word, firsts, pairs-of}
+use Rattle.tape.specs.Layout.{firsts, pairs-of}
 use Rattle.tape.specs.Facts.{size-is}
-use Rattle.tape.proofs.Steps.{sound-again, image-again, pushed, pushed-blank, pushed-past}
+use Rattle.tape.proofs.Steps.{marked-sound}
 use Rattle.tape.proofs.bytes.mark.Needs as need
 
 pub returns-then-n-cap : need.returns-then-n-cap
@@ -39,14 +37,6 @@ returns c =
     let long1 : length m1 ≡ length m0 = omega arith in
     let long2 : length m2 ≡ length m0 = omega arith in
     let free : n < cap = omega (arith, c .pre .sound .within) in
-    let pairs = pushed m0 m1 m2 cap n e v (c .word-at-n .ensures) long1 long2 free (c .pre .fitting) (c .pre .sound) (c .put-pair .ensures .there) (c .put-pair .ensures .others) (c .put-word .ensures .there) (c .put-word .ensures .others) in
-    let blank = pushed-blank m0 m1 m2 cap n e v (c .word-at-n .ensures) long1 long2 free (c .pre .fitting) (c .pre .sound) (c .put-pair .ensures .there) (c .put-pair .ensures .others) (c .put-word .ensures .there) (c .put-word .ensures .others) in
-    let past = pushed-past m0 m1 m2 cap n e v (c .word-at-n .ensures) long1 long2 free (c .pre .fitting) (c .pre .sound) (c .put-pair .ensures .there) (c .put-pair .ensures .others) (c .put-word .ensures .there) (c .put-word .ensures .others) in
-    let within : word m2 0 ≤ cap = omega (arith, c .put-word .ensures .there) in
-    let apart = apart-push (pairs-of m0) p (c .pre .sound .apart) new in
-    record {
-      sound = sound-again m0 m2 cap (pairs-of m0 ++ p ∷ []) (c .pre .fitting) long2 (c .typed .m) within blank pairs apart past;
-      answer = (new, omega (arith, size-is m0));
-      pairs = pairs;
-      image = image-again m0 m2 cap (pairs-of m0 ++ p ∷ []) (c .pre .fitting) long2 (c .typed .m) within blank pairs apart past;
-    }
+    let done = marked-sound m0 m1 m2 cap n e v (c .word-at-n .ensures) long1 long2 free (c .pre .fitting) (c .pre .sound) (c .put-pair .ensures .there) (c .put-pair .ensures .others)
+    (c .put-word .ensures .there) (c .put-word .ensures .others) (c .typed .m) new in
+    record { sound = done .1; answer = (new, omega (arith, size-is m0)); pairs = done .0; image = done .2 }

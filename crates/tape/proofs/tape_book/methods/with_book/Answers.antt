@@ -17,9 +17,9 @@ returns g c =
     let made = c .over .ensures in
     record {
       answer = subst (λ r. Worked (g .W·Work .told (c .args .work)) r (Ok (c .on .result))) fits
-        (meaning-of (c .over .result), (made .pairs, made .capacity), c .on .ensures);
+          (meaning-of (c .over .result), (made .pairs, made .capacity), c .on .ensures);
       stays = λ short.
-        let none : room-in len ≡ Err WrongLength = cond-true _ (Err WrongLength) (Ok (room len)) (lt-ltb len 36 short) in
-        let z : _≡_ {A = ℕ} 0 1 = cc in
-        absurd (omega arith);
+          let none : room-in len ≡ Err WrongLength = cond-true _ (Err WrongLength) (Ok (room len)) (lt-ltb len 36 short) in
+          let z : _≡_ {A = ℕ} 0 1 = cc in
+          absurd (omega arith);
     }
