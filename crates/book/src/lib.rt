@@ -43,6 +43,18 @@ pub trait Book {
         ensures { λ r. ⌜ r ≡ meaning (now (self .entry)) .capacity ⌝ };
 }
 
+// A piece of work to be done on a fresh book of any kind. A book over lent memory cannot be handed back
+// inside a `Result`, so a kind takes the work instead, and refuses memory that holds no book.
+pub trait Work: Sized {
+    type Answer;
+
+    // What the work answers, from what the book means at its start.
+    ghost told: { Self → Meaning → Self·Answer → Type 0 };
+
+    fn on<B: Book + Drop>(self, book: B) -> Self::Answer
+        ensures { λ r. ⌜ told self (B·Book .meaning book) r ⌝ };
+}
+
 // The answers of the worked case below.
 #[derive(Drop)]
 pub struct OnePlace {
