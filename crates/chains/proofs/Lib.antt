@@ -8,3 +8,4 @@ pub mod Dropping
 pub mod Clearing
 pub mod Soundness
 pub mod Steps
+pub mod Meanings

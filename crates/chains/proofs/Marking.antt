@@ -15,14 +15,14 @@ use Rattle.chains.proofs.Fits.{all-of, pair-at, Fits, moved, moved-same, moved
 
 module _ (t : Table) (ls : ℕ → List ℕ) (p : Pair) (k : ℕ) (fs : List ℕ)
     (fits : Fits t ls) (first : ls 64 ≡ k ∷ fs) (nonce : length (p .1) ≡ 32) where
-  c : ℕ
+  abbrev c : ℕ
   c = chain-of (p .1)
 
   e : Entry
   e = record { next = head t (chain-of (p .1)); epoch = p .0; nonce = p .1 }
 
   -- the table, with the first free record by its number
-  pub after : Table
+  unfoldable pub after : Table
   after = record {
     heads = set (set (t .heads) 64 (at t k .next)) (chain-of (p .1)) k;
     size = t .size + 1;
@@ -41,7 +41,6 @@ module _ (t : Table) (ls : ℕ → List ℕ) (p : Pair) (k : ℕ) (fs : List ℕ
   }) (link .0)
 
   below : c < 64
-  unfolding c
   below = chain-below (p .1)
 
   not-used : (d : ℕ) → d < 64 → Not k (ls d)
@@ -54,19 +53,19 @@ module _ (t : Table) (ls : ℕ → List ℕ) (p : Pair) (k : ℕ) (fs : List ℕ
   there = entry-put-same (t .entries) k e (link .1) (link .2)
 
   head-here : head after c ≡ k
-  unfolding c after
+  unfolding after
   head-here = getD-set-same (set (t .heads) 64 (at t k .next)) c k 0 (omega (arith, below, length-set (t .heads) 64 (at t k .next), fits .wide))
 
   head-free : head after 64 ≡ at t k .next
-  unfolding c after
+  unfolding after
   head-free = getD-set-other (set (t .heads) 64 (at t k .next)) c 64 k 0 (λ q. omega (arith, below)) ∙ getD-set-same (t .heads) 64 (at t k .next) 0 (omega (arith, fits .wide))
 
   head-other : (d : ℕ) → d < 64 → (d ≡ c → ⊥) → head after d ≡ head t d
-  unfolding c after
+  unfolding after
   head-other d lt ne = getD-set-other (set (t .heads) 64 (at t k .next)) c d k 0 ne ∙ getD-set-other (t .heads) 64 d (at t k .next) 0 (λ q. omega arith)
 
   -- the chains afterwards
-  pub lists : ℕ → List ℕ
+  unfoldable pub lists : ℕ → List ℕ
   lists = moved ls c (k ∷ ls c) fs
 
   parts : (A : List ℕ) × (B : List ℕ) × ((ms : ℕ → List ℕ) → ((d : ℕ) → 0 ≤ d → d < 0 + 64 → (d ≡ c → ⊥) → ms d ≡ ls d) → all-of ms ≡ A ++ (ms c ++ B))
@@ -103,7 +102,7 @@ module _ (t : Table) (ls : ℕ → List ℕ) (p : Pair) (k : ℕ) (fs : List ℕ
       ap (map f) is ∙ map-append f (parts .0) (k ∷ (ls c ++ parts .1)) ∙ ap (λ w. w ++ map f (k ∷ (ls c ++ parts .1))) a ∙ ap (λ w. front ++ w) (cc)
 
   pub mark-fits : (Has (map (pair-at t) (all-of ls)) p → ⊥) → Fits after lists
-  unfolding after lists e c
+  unfolding after lists e
   mark-fits new =
       let es′ = put (t .entries) k e in
       let ms = moved ls c (k ∷ ls c) fs in

@@ -46,17 +46,21 @@ fronted (j ∷ js) ks = fronted js (j ∷ ks)
 abbrev pub Shaped-table : Table → Type 0
 Shaped-table t = (length (t .heads) ≡ 65) × ((k : ℕ) → length (at t k .nonce) ≡ 32)
 
--- each chain ends, and leads over records that are there
+-- each chain ends
 abbrev pub Ended : Table → Type 0
-Ended t = (c : ℕ) → c ≤ free → (stop (t .entries) (length (t .entries)) (head t c) ≡ 0) × ((i : ℕ) → i < length (chain t c) → getD (chain t c) i 0 ≤ length (t .entries))
+Ended t = (c : ℕ) → c ≤ free → stop (t .entries) (length (t .entries)) (head t c) ≡ 0
+
+-- and leads over records that are there
+abbrev pub Within : Table → Type 0
+Within t = (c i : ℕ) → (c ≤ free) × (i < length (chain t c)) → getD (chain t c) i 0 ≤ length (t .entries)
 
 -- each pair is in its chain
 abbrev pub Placed : Table → Type 0
-Placed t = (c i : ℕ) → c < free → i < length (chain t c) → chain-of (at t (getD (chain t c) i 0) .nonce) ≡ c
+Placed t = (c i : ℕ) → (c < free) × (i < length (chain t c)) → chain-of (at t (getD (chain t c) i 0) .nonce) ≡ c
 
 -- no record of a chain is free
 abbrev pub Unfree : Table → Type 0
-Unfree t = (c i j : ℕ) → c < free → i < length (chain t c) → j < length (chain t free) → getD (chain t free) j 0 ≡ getD (chain t c) i 0 → ⊥
+Unfree t = (c i j : ℕ) → (c < free) × (i < length (chain t c)) × (j < length (chain t free)) × (getD (chain t free) j 0 ≡ getD (chain t c) i 0) → ⊥
 
 -- a free record is zero
 abbrev pub Blank : Table → Type 0
@@ -67,4 +71,4 @@ abbrev pub Counted : Table → Type 0
 Counted t = (t .size ≡ length (used t)) × (length (used t) + length (chain t free) ≡ length (t .entries))
 
 abbrev pub Sound : Table → Type 0
-Sound t = Shaped-table t × Ended t × Placed t × Unfree t × Blank t × Counted t × Apart (pairs t)
+Sound t = Shaped-table t × Ended t × Within t × Placed t × Unfree t × Blank t × Counted t × Apart (pairs t)

@@ -13,19 +13,16 @@ ghost use lib.ListN.{length, getD};
 ghost use Rattle.std.specs.Orderings.{Decides};
 ghost use Rattle.chains.specs.Tables.{Entry, Table, at, head, pair-of, chain-of, with-head, with-size, with-entry, with-next, zeroed, cleared, bridged, freed, swept, dropped};
 ghost use Rattle.chains.specs.Calls.{Chained, Marks};
+ghost use Rattle.chains.specs.Laws.{Found, Cleared-chains, Marked-chains, Dropped-chains};
 use faults::BookFault;
 
 // How many chains there are. The free chain's head stands behind theirs.
 pub const CHAINS: u8 = 64;
 
-// The records as the chains see them. A call with a number that no record has reads a blank one and
-// writes nothing, and no call alters what lies beside the records.
+// The records as the chains see them. A number that no record has reads as a blank record.
 pub trait Records {
     // The heads, the size and the records.
     ghost table: { Self → Table };
-
-    // What lies beside them.
-    ghost beside: { Self → List ℕ };
 
     // How many records there are.
     fn places(&self) -> u16
@@ -35,16 +32,9 @@ pub trait Records {
     fn head(&self, chain: u8) -> u16
         ensures { λ r. ⌜ r ≡ head (table (now (self .entry))) chain ⌝ };
 
-    fn put_head(&mut self, chain: u8, number: u16)
-        ensures table { λ _. ⌜ table (now (self .exit)) ≡ with-head (table (now (self .entry))) chain number ⌝ }
-        ensures beside { λ _. ⌜ beside (now (self .exit)) ≡ beside (now (self .entry)) ⌝ };
-
-    fn size(&self) -> u16
+    // The size.
+    fn count(&self) -> u16
         ensures { λ r. ⌜ r ≡ table (now (self .entry)) .size ⌝ };
-
-    fn put_size(&mut self, size: u16)
-        ensures table { λ _. ⌜ table (now (self .exit)) ≡ with-size (table (now (self .entry))) size ⌝ }
-        ensures beside { λ _. ⌜ beside (now (self .exit)) ≡ beside (now (self .entry)) ⌝ };
 
     fn next(&self, number: u16) -> u16
         ensures { λ r. ⌜ r ≡ at (table (now (self .entry))) number .next ⌝ };
@@ -55,19 +45,34 @@ pub trait Records {
     // Whether a record has this pair.
     fn holds(&self, number: u16, epoch: u16, nonce: &[u8; 32]) -> bool
         ensures { λ r. ⌜ Decides r (pair-of (at (table (now (self .entry))) number) ≡ (epoch, now (nonce .entry))) ⌝ };
+}
+
+// Records that can be written. A write to a number that no record has writes nothing, and no call alters
+// what lies beside the records.
+pub trait RecordsMut: Records {
+    // Whose memory they lie in, by the number of the loan, and the bytes beside them.
+    ghost beside: { Self → ℕ × List ℕ };
+
+    fn put_head(&mut self, chain: u8, number: u16)
+        ensures table { λ _. ⌜ Self·Records .table (now (self .exit)) ≡ with-head (Self·Records .table (now (self .entry))) chain number ⌝ }
+        ensures beside { λ _. ⌜ beside (now (self .exit)) ≡ beside (now (self .entry)) ⌝ };
+
+    fn put_count(&mut self, count: u16)
+        ensures table { λ _. ⌜ Self·Records .table (now (self .exit)) ≡ with-size (Self·Records .table (now (self .entry))) count ⌝ }
+        ensures beside { λ _. ⌜ beside (now (self .exit)) ≡ beside (now (self .entry)) ⌝ };
 
     fn put_next(&mut self, number: u16, next: u16)
-        ensures table { λ _. ⌜ table (now (self .exit)) ≡ with-next (table (now (self .entry))) number next ⌝ }
+        ensures table { λ _. ⌜ Self·Records .table (now (self .exit)) ≡ with-next (Self·Records .table (now (self .entry))) number next ⌝ }
         ensures beside { λ _. ⌜ beside (now (self .exit)) ≡ beside (now (self .entry)) ⌝ };
 
     // Writes a whole record.
     fn put(&mut self, number: u16, next: u16, epoch: u16, nonce: &[u8; 32])
-        ensures table { λ _. ⌜ table (now (self .exit)) ≡ with-entry (table (now (self .entry))) number (record { next = next; epoch = epoch; nonce = now (nonce .entry) }) ⌝ }
+        ensures table { λ _. ⌜ Self·Records .table (now (self .exit)) ≡ with-entry (Self·Records .table (now (self .entry))) number (record { next = next; epoch = epoch; nonce = now (nonce .entry) }) ⌝ }
         ensures beside { λ _. ⌜ beside (now (self .exit)) ≡ beside (now (self .entry)) ⌝ };
 
     // Zeroes the heads, the size and every record.
     fn wipe(&mut self)
-        ensures table { λ _. ⌜ table (now (self .exit)) ≡ zeroed (length (table (now (self .entry)) .entries)) ⌝ }
+        ensures table { λ _. ⌜ Self·Records .table (now (self .exit)) ≡ zeroed (length (Self·Records .table (now (self .entry)) .entries)) ⌝ }
         ensures beside { λ _. ⌜ beside (now (self .exit)) ≡ beside (now (self .entry)) ⌝ };
 }
 
@@ -95,8 +100,8 @@ pub fn find<R: Records>(records: &R, epoch: u16, nonce: &[u8; 32]) -> bool
 }
 
 // Empties every chain, and chains the free records 1, 2, … in order.
-pub fn clear<R: Records>(records: &mut R)
-    ensures table { λ _. ⌜ table (now (records .exit)) ≡ cleared (length (table (now (records .entry)) .entries)) ⌝ }
+pub fn clear<R: RecordsMut>(records: &mut R)
+    ensures table { λ _. ⌜ R·Records .table (now (records .exit)) ≡ cleared (length (R·Records .table (now (records .entry)) .entries)) ⌝ }
     ensures beside { λ _. ⌜ beside (now (records .exit)) ≡ beside (now (records .entry)) ⌝ }
 {
     records.wipe();
@@ -107,14 +112,14 @@ pub fn clear<R: Records>(records: &mut R)
 }
 
 // Adds a pair: the first free record takes it and goes to the front of its chain.
-pub fn mark<R: Records>(records: &mut R, epoch: u16, nonce: &[u8; 32]) -> Result<(), BookFault>
-    ensures table { λ r. ⌜ Marks (table (now (records .entry))) (epoch, now (nonce .entry)) r (table (now (records .exit))) ⌝ }
+pub fn mark<R: RecordsMut>(records: &mut R, epoch: u16, nonce: &[u8; 32]) -> Result<(), BookFault>
+    ensures table { λ r. ⌜ Marks (R·Records .table (now (records .entry))) (epoch, now (nonce .entry)) r (R·Records .table (now (records .exit))) ⌝ }
     ensures beside { λ _. ⌜ beside (now (records .exit)) ≡ beside (now (records .entry)) ⌝ }
 {
     if find(records, epoch, nonce) {
         return Err(BookFault::Spent);
     }
-    let size = records.size();
+    let size = records.count();
     if size >= records.places() {
         return Err(BookFault::Full);
     }
@@ -125,13 +130,13 @@ pub fn mark<R: Records>(records: &mut R, epoch: u16, nonce: &[u8; 32]) -> Result
     records.put(number, first, epoch, nonce);
     records.put_head(CHAINS, free);
     records.put_head(chain, number);
-    records.put_size(size + 1);
+    records.put_count(size + 1);
     Ok(())
 }
 
 // Leads a chain past a record: from the one before it, or from the head where there is none.
-fn bridge<R: Records>(records: &mut R, chain: u8, before: u16, rest: u16)
-    ensures table { λ _. ⌜ table (now (records .exit)) ≡ bridged (table (now (records .entry))) chain before rest ⌝ }
+fn bridge<R: RecordsMut>(records: &mut R, chain: u8, before: u16, rest: u16)
+    ensures table { λ _. ⌜ R·Records .table (now (records .exit)) ≡ bridged (R·Records .table (now (records .entry))) chain before rest ⌝ }
     ensures beside { λ _. ⌜ beside (now (records .exit)) ≡ beside (now (records .entry)) ⌝ }
 {
     if before == 0 {
@@ -142,20 +147,20 @@ fn bridge<R: Records>(records: &mut R, chain: u8, before: u16, rest: u16)
 }
 
 // Zeroes a record and puts it at the front of the free chain.
-fn free<R: Records>(records: &mut R, number: u16)
-    ensures table { λ _. ⌜ table (now (records .exit)) ≡ freed (table (now (records .entry))) number ⌝ }
+fn free<R: RecordsMut>(records: &mut R, number: u16)
+    ensures table { λ _. ⌜ R·Records .table (now (records .exit)) ≡ freed (R·Records .table (now (records .entry))) number ⌝ }
     ensures beside { λ _. ⌜ beside (now (records .exit)) ≡ beside (now (records .entry)) ⌝ }
 {
     let first = records.head(CHAINS);
-    let size = records.size();
+    let size = records.count();
     records.put(number, first, 0, &[0; 32]);
     records.put_head(CHAINS, number);
-    records.put_size(size.saturating_sub(1));
+    records.put_count(size.saturating_sub(1));
 }
 
 // Frees the records of an epoch in one chain, from its front.
-fn sweep<R: Records>(records: &mut R, epoch: u16, chain: u8)
-    ensures table { λ _. ⌜ table (now (records .exit)) ≡ swept epoch chain (length (table (now (records .entry)) .entries)) 0 (head (table (now (records .entry))) chain) (table (now (records .entry))) ⌝ }
+fn sweep<R: RecordsMut>(records: &mut R, epoch: u16, chain: u8)
+    ensures table { λ _. ⌜ R·Records .table (now (records .exit)) ≡ swept epoch chain (length (R·Records .table (now (records .entry)) .entries)) 0 (head (R·Records .table (now (records .entry))) chain) (R·Records .table (now (records .entry))) ⌝ }
     ensures beside { λ _. ⌜ beside (now (records .exit)) ≡ beside (now (records .entry)) ⌝ }
 {
     let mut before = 0;
@@ -175,14 +180,24 @@ fn sweep<R: Records>(records: &mut R, epoch: u16, chain: u8)
 }
 
 // Frees the records of an epoch in the chains 0 to 63, and answers how many they were.
-pub fn drop_epoch<R: Records>(records: &mut R, epoch: u16) -> u16
-    ensures table { λ _. ⌜ table (now (records .exit)) ≡ dropped epoch (table (now (records .entry))) ⌝ }
+pub fn drop_epoch<R: RecordsMut>(records: &mut R, epoch: u16) -> u16
+    ensures table { λ _. ⌜ R·Records .table (now (records .exit)) ≡ dropped epoch (R·Records .table (now (records .entry))) ⌝ }
     ensures beside { λ _. ⌜ beside (now (records .exit)) ≡ beside (now (records .entry)) ⌝ }
-    ensures count { λ r. ⌜ r ≡ table (now (records .entry)) .size - table (now (records .exit)) .size ⌝ }
+    ensures count { λ r. ⌜ r ≡ R·Records .table (now (records .entry)) .size - R·Records .table (now (records .exit)) .size ⌝ }
 {
-    let size = records.size();
+    let size = records.count();
     for chain in 0..CHAINS {
         sweep(records, epoch, chain);
     }
-    size.saturating_sub(records.size())
+    size.saturating_sub(records.count())
+}
+
+// What the calls make of the chains and of the pairs, whatever way the records lie: the order in which
+// records are taken and freed, and the set of pairs that they leave.
+pub fn chains_keep_a_set()
+    ensures found { λ _. ⌜ Found ⌝ }
+    ensures clear { λ _. ⌜ Cleared-chains ⌝ }
+    ensures mark { λ _. ⌜ Marked-chains ⌝ }
+    ensures drop { λ _. ⌜ Dropped-chains ⌝ }
+{
 }

@@ -12,4 +12,4 @@ Inv-loop-number g l =
     × (g .R·Records .table (l .records) .size ≡ 0)
     × (length (g .R·Records .table (l .records) .entries) ≡ length (g .R·Records .table (l .entry .records) .entries))
     × ((k : ℕ) → k < length (g .R·Records .table (l .entry .records) .entries) → getD (g .R·Records .table (l .records) .entries) k blank ≡ chained-below (l .number) k)
-    × (g .R·Records .beside (l .records) ≡ g .R·Records .beside (l .entry .records))
+    × (g .R·RecordsMut .beside (l .records) ≡ g .R·RecordsMut .beside (l .entry .records))

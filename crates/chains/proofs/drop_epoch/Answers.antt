@@ -25,5 +25,5 @@ returns g c =
     record {
       table = sym (ap (λ n. swept-from e (c .loop-chain .chain) n t) end ∙ swept-none e (c .loop-chain .chain) t) ∙ c .loop-chain .inv .0;
       beside = c .loop-chain .inv .1;
-      count = omega (arith, c .saturating-sub .ensures, c .size-size .ensures, c .size .ensures);
+      count = omega (arith, c .saturating-sub .ensures, c .count-size .ensures, c .count .ensures);
     }

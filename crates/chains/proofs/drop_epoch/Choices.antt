@@ -7,4 +7,4 @@ use Rattle.chains.proofs.drop_epoch.Given as given
 abbrev pub Inv-loop-chain : given.InvT-loop-chain
 Inv-loop-chain g l =
     (swept-from (l .epoch) (l .chain) (64 - l .chain) (g .R·Records .table (l .records)) ≡ dropped (l .epoch) (g .R·Records .table (l .entry .records)))
-    × (g .R·Records .beside (l .records) ≡ g .R·Records .beside (l .entry .records))
+    × (g .R·RecordsMut .beside (l .records) ≡ g .R·RecordsMut .beside (l .entry .records))

@@ -10,8 +10,8 @@ returns g c = record {
     not-from-decides (c .find .result) (c .find .ensures) (c .if-find .left),
     omega arith,
     marked-by (g .R·Records .table (c .args .records .now)) _ _ _ _ (c .args .epoch, c .args .nonce .now) _ _ _ _ _
-        (c .head-number .ensures) (c .chain-of-chain .ensures) (c .next-free .ensures) (c .head-first .ensures) (c .size-size .ensures)
-        (c .put .ensures .table) (c .put-head .ensures .table) (c .put-head-2 .ensures .table) (c .put-size .ensures .table),
+        (c .head-number .ensures) (c .chain-of-chain .ensures) (c .next-free .ensures) (c .head-first .ensures) (c .count-size .ensures)
+        (c .put .ensures .table) (c .put-head .ensures .table) (c .put-head-2 .ensures .table) (c .put-count .ensures .table),
   );
-  beside = c .put-size .ensures .beside ∙ c .put-head-2 .ensures .beside ∙ c .put-head .ensures .beside ∙ c .put .ensures .beside;
+  beside = c .put-count .ensures .beside ∙ c .put-head-2 .ensures .beside ∙ c .put-head .ensures .beside ∙ c .put .ensures .beside;
 }

@@ -30,7 +30,7 @@ loop-number-again g c =
                 ∙ ap (swept e h (s - 1) b (at t k .next)) free
                 ∙ sym (swept-hit e h s b k t (λ z. omega arith) (omega arith) (sym read ∙ w .if-epoch .taken))
                 ∙ c .loop-number .inv .0,
-            ap (g .R·Records .beside) (w .records-is) ∙ w .free .ensures .beside ∙ w .bridge .ensures .beside ∙ c .loop-number .inv .1,
+            ap (g .R·RecordsMut .beside) (w .records-is) ∙ w .free .ensures .beside ∙ w .bridge .ensures .beside ∙ c .loop-number .inv .1,
           )
       | else-epoch w ↦ (
         ap (λ x. swept e h (s - 1) x (c .next-next .result) (tab (c .if-epoch .records))) (w .before-is)
@@ -38,7 +38,7 @@ loop-number-again g c =
             ∙ ap (λ x. swept e h (s - 1) k x t) next
             ∙ sym (swept-miss e h s b k t (λ z. omega arith) (omega arith) (λ q. w .if-epoch .left (read ∙ q)))
             ∙ c .loop-number .inv .0,
-        ap (g .R·Records .beside) (w .records-is) ∙ c .loop-number .inv .1,
+        ap (g .R·RecordsMut .beside) (w .records-is) ∙ c .loop-number .inv .1,
       )
     ]
 

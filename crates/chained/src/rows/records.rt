@@ -1,0 +1,73 @@
+// The rows as the chains see them.
+ghost use mathlib.Core.Path.{_≡_};
+ghost use denote.Ref.{now, name};
+ghost use Rattle.chained.specs.Layout.{table-of, later};
+use super::Rows;
+use crate::bytes;
+use chains::Records;
+use std::mem;
+
+pub impl<'a> Records for Rows<'a> as RowsAreRecords {
+    ghost table = { λ r. table-of (r .capacity) (now (r .memory)) };
+
+    ghost beside = { λ r. (name (r .memory), later (now (r .memory)) (r .capacity)) };
+
+    fn places(&self) -> u16 {
+        self.capacity
+    }
+
+    fn head(&self, chain: u8) -> u16 {
+        bytes::head(self.memory, self.capacity, chain)
+    }
+
+    fn put_head(&mut self, chain: u8, number: u16) {
+        let capacity = self.capacity;
+        let memory = mem::replace(&mut self.memory, &mut []);
+        bytes::put_head(memory, capacity, chain, number);
+        self.memory = memory;
+    }
+
+    fn size(&self) -> u16 {
+        bytes::size(self.memory, self.capacity)
+    }
+
+    fn put_size(&mut self, size: u16) {
+        let capacity = self.capacity;
+        let memory = mem::replace(&mut self.memory, &mut []);
+        bytes::put_size(memory, capacity, size);
+        self.memory = memory;
+    }
+
+    fn next(&self, number: u16) -> u16 {
+        bytes::next(self.memory, self.capacity, number)
+    }
+
+    fn epoch(&self, number: u16) -> u16 {
+        bytes::epoch(self.memory, self.capacity, number)
+    }
+
+    fn holds(&self, number: u16, epoch: u16, nonce: &[u8; 32]) -> bool {
+        bytes::holds(self.memory, self.capacity, number, epoch, nonce)
+    }
+
+    fn put_next(&mut self, number: u16, next: u16) {
+        let capacity = self.capacity;
+        let memory = mem::replace(&mut self.memory, &mut []);
+        bytes::put_next(memory, capacity, number, next);
+        self.memory = memory;
+    }
+
+    fn put(&mut self, number: u16, next: u16, epoch: u16, nonce: &[u8; 32]) {
+        let capacity = self.capacity;
+        let memory = mem::replace(&mut self.memory, &mut []);
+        bytes::put(memory, capacity, number, next, epoch, nonce);
+        self.memory = memory;
+    }
+
+    fn wipe(&mut self) {
+        let capacity = self.capacity;
+        let memory = mem::replace(&mut self.memory, &mut []);
+        bytes::wipe(memory, capacity);
+        self.memory = memory;
+    }
+}
