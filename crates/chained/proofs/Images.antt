@@ -33,7 +33,7 @@ joined-cut f w base m a (suc n) s =
     let here = s a (omega arith) (omega arith) in
     let rest = joined-cut f w base m (a + 1) n (λ i lo hi. s i (omega arith) (omega arith)) in
     let next : base + w * a + w ≡ base + w * (a + 1) = omega (arith, native.Mathlib.Nat.mul-add w a 1) in
-    let more : w * suc n ≡ w + w * n = omega (arith, native.Mathlib.Nat.mul-succ w n) in
+    let more : w * suc n ≡ w + w * n = omega (arith, native.Mathlib.Nat.mul-suc w n) in
     ap (λ x. x ++ joined f (counting (a + 1) n)) here
     ∙ ap (λ x. take w (drop (base + w * a) m) ++ x) (rest ∙ ap (λ k. take (w * n) (drop k m)) (sym next) ∙ ap (take (w * n)) (sym (drop-drop w (base + w * a) m)))
     ∙ sym (take-add w (w * n) (drop (base + w * a) m))

@@ -75,18 +75,18 @@ pub fn put_head(m: &mut [u8], capacity: u16, chain: u8, number: u16)
     }
 }
 
-pub fn size(m: &[u8], capacity: u16) -> u16
+pub fn count(m: &[u8], capacity: u16) -> u16
     requires { ⌜ place capacity ≤ length (now m) ⌝ }
     ensures { λ r. ⌜ r ≡ table-of capacity (now (m .entry)) .size ⌝ }
 {
     word_at(m, SIZE)
 }
 
-pub fn put_size(m: &mut [u8], capacity: u16, size: u16)
+pub fn put_count(m: &mut [u8], capacity: u16, count: u16)
     requires { ⌜ place capacity ≤ length (now m) ⌝ }
-    ensures { λ _. ⌜ Written capacity (now (m .entry)) (now (m .exit)) (with-size (table-of capacity (now (m .entry))) size) ⌝ }
+    ensures { λ _. ⌜ Written capacity (now (m .entry)) (now (m .exit)) (with-size (table-of capacity (now (m .entry))) count) ⌝ }
 {
-    put_word(m, SIZE, size);
+    put_word(m, SIZE, count);
 }
 
 pub fn next(m: &[u8], capacity: u16, number: u16) -> u16

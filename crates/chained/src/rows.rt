@@ -17,3 +17,4 @@ pub struct Rows<'a> {
 mod records;
 
 pub use records::RowsAreRecords;
+pub use records::RowsAreWritten;

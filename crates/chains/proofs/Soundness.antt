@@ -10,7 +10,7 @@ use Rattle.std.specs.shelf.Lists.{All}
 use Rattle.std.proofs.shelf.Elements.{all-getD, all-from-getD}
 use Rattle.book.specs.Meaning.{Pair, Apart}
 use Rattle.chains.specs.Tables.{Table, entry, at, head, pair-of, chain-of, free}
-use Rattle.chains.specs.Chains.{walk, stop, chain, used, pairs, Shaped-table, Ended, Within, Placed, Unfree, Blank, Counted, Sound}
+use Rattle.chains.specs.Chains.{walk, stop, chain, used, pairs, Shaped-table, Ended, Within, Placed, Unfree, Epochless, Nonceless, Counted, Sound}
 use Rattle.chains.proofs.Links.{Not, Linked, linked-walk, walk-linked, linked-range}
 use Rattle.chains.proofs.Joins.{joined-agree}
 use Rattle.chains.proofs.Fits.{all-of, pair-at, Fits}
@@ -24,7 +24,7 @@ fits-from-sound t s = record {
   linked = λ c le. walk-linked (t .entries) (length (t .entries)) (head t c) (s .1 c le) (all-from-getD (λ k. k ≤ length (t .entries)) (chain t c) 0 (λ i b. s .2 c i (le, b)));
   placed = λ c lt. all-from-getD (λ k. chain-of (at t k .nonce) ≡ c) (chain t c) 0 (λ i b. s .3 c i (lt, b));
   unfree = λ c lt. all-from-getD (λ k. Not k (chain t 64)) (chain t c) 0 (λ i b. all-from-getD (λ j. j ≡ getD (chain t c) i 0 → ⊥) (chain t 64) 0 (λ j d e. s .4 c i j (lt, b, d, e)));
-  blank = all-from-getD (λ k. (at t k .epoch ≡ 0) × (at t k .nonce ≡ replicate 32 0)) (chain t 64) 0 (s .5);
+  blank = all-from-getD (λ k. (at t k .epoch ≡ 0) × (at t k .nonce ≡ replicate 32 0)) (chain t 64) 0 (λ j b. (s .5 .0 j b, s .5 .1 j b));
   size = s .6 .0;
   room = s .6 .1;
   apart = s .7;
@@ -58,17 +58,17 @@ module _ (t : Table) (ls : ℕ → List ℕ) (fits : Fits t ls) where
       let apart : All (λ k. Not k (chain t 64)) (chain t c) = subst (λ w. All (λ k. Not k w) (chain t c)) (sym (chain-is 64 (omega arith))) (subst (All (λ k. Not k (ls 64))) (sym (chain-is c (omega arith))) (fits .unfree c lt)) in
       all-getD (λ y. y ≡ getD (chain t c) i 0 → ⊥) (chain t 64) j 0 d (all-getD (λ k. Not k (chain t 64)) (chain t c) i 0 b apart) e
 
-  blanks : Blank t
+  blanks : (j : ℕ) → j < length (chain t 64) → (at t (getD (chain t 64) j 0) .epoch ≡ 0) × (at t (getD (chain t 64) j 0) .nonce ≡ replicate 32 0)
   blanks = λ j b. all-getD (λ k. (at t k .epoch ≡ 0) × (at t k .nonce ≡ replicate 32 0)) (chain t 64) j 0 b (subst (All (λ k. (at t k .epoch ≡ 0) × (at t k .nonce ≡ replicate 32 0))) (sym (chain-is 64 (omega arith))) (fits .blank))
 
   pub sound-from-fits : Sound t
   sound-from-fits = (
     (fits .wide, fits .shaped),
     ended,
-      within,
+    within,
     placed,
     unfree,
-    blanks,
+    (λ j b. blanks j b .0, λ j b. blanks j b .1),
     (fits .size ∙ sym (ap length used-is), omega (arith, fits .room, ap length used-is, ap length (chain-is 64 (omega arith)))),
     subst Apart (sym pairs-is) (fits .apart),
   )

@@ -62,13 +62,16 @@ Placed t = (c i : ℕ) → (c < free) × (i < length (chain t c)) → chain-of (
 abbrev pub Unfree : Table → Type 0
 Unfree t = (c i j : ℕ) → (c < free) × (i < length (chain t c)) × (j < length (chain t free)) × (getD (chain t free) j 0 ≡ getD (chain t c) i 0) → ⊥
 
--- a free record is zero
-abbrev pub Blank : Table → Type 0
-Blank t = (j : ℕ) → j < length (chain t free) → (at t (getD (chain t free) j 0) .epoch ≡ 0) × (at t (getD (chain t free) j 0) .nonce ≡ replicate 32 0)
+-- a free record has epoch zero and a nonce of zeros
+abbrev pub Epochless : Table → Type 0
+Epochless t = (j : ℕ) → j < length (chain t free) → at t (getD (chain t free) j 0) .epoch ≡ 0
+
+abbrev pub Nonceless : Table → Type 0
+Nonceless t = (j : ℕ) → j < length (chain t free) → at t (getD (chain t free) j 0) .nonce ≡ replicate 32 0
 
 -- the size is the number of pairs, and the other records are free
 abbrev pub Counted : Table → Type 0
 Counted t = (t .size ≡ length (used t)) × (length (used t) + length (chain t free) ≡ length (t .entries))
 
 abbrev pub Sound : Table → Type 0
-Sound t = Shaped-table t × Ended t × Within t × Placed t × Unfree t × Blank t × Counted t × Apart (pairs t)
+Sound t = Shaped-table t × Ended t × Within t × Placed t × Unfree t × (Epochless t × Nonceless t) × Counted t × Apart (pairs t)

@@ -5,12 +5,11 @@ ghost use Rattle.chained.specs.Layout.{table-of, later};
 use super::Rows;
 use crate::bytes;
 use chains::Records;
+use chains::RecordsMut;
 use std::mem;
 
 pub impl<'a> Records for Rows<'a> as RowsAreRecords {
     ghost table = { λ r. table-of (r .capacity) (now (r .memory)) };
-
-    ghost beside = { λ r. (name (r .memory), later (now (r .memory)) (r .capacity)) };
 
     fn places(&self) -> u16 {
         self.capacity
@@ -20,22 +19,8 @@ pub impl<'a> Records for Rows<'a> as RowsAreRecords {
         bytes::head(self.memory, self.capacity, chain)
     }
 
-    fn put_head(&mut self, chain: u8, number: u16) {
-        let capacity = self.capacity;
-        let memory = mem::replace(&mut self.memory, &mut []);
-        bytes::put_head(memory, capacity, chain, number);
-        self.memory = memory;
-    }
-
-    fn size(&self) -> u16 {
-        bytes::size(self.memory, self.capacity)
-    }
-
-    fn put_size(&mut self, size: u16) {
-        let capacity = self.capacity;
-        let memory = mem::replace(&mut self.memory, &mut []);
-        bytes::put_size(memory, capacity, size);
-        self.memory = memory;
+    fn count(&self) -> u16 {
+        bytes::count(self.memory, self.capacity)
     }
 
     fn next(&self, number: u16) -> u16 {
@@ -48,6 +33,24 @@ pub impl<'a> Records for Rows<'a> as RowsAreRecords {
 
     fn holds(&self, number: u16, epoch: u16, nonce: &[u8; 32]) -> bool {
         bytes::holds(self.memory, self.capacity, number, epoch, nonce)
+    }
+}
+
+pub impl<'a> RecordsMut for Rows<'a> as RowsAreWritten {
+    ghost beside = { λ r. (name (r .memory), later (now (r .memory)) (r .capacity)) };
+
+    fn put_head(&mut self, chain: u8, number: u16) {
+        let capacity = self.capacity;
+        let memory = mem::replace(&mut self.memory, &mut []);
+        bytes::put_head(memory, capacity, chain, number);
+        self.memory = memory;
+    }
+
+    fn put_count(&mut self, count: u16) {
+        let capacity = self.capacity;
+        let memory = mem::replace(&mut self.memory, &mut []);
+        bytes::put_count(memory, capacity, count);
+        self.memory = memory;
     }
 
     fn put_next(&mut self, number: u16, next: u16) {
