@@ -38,8 +38,8 @@ pub nonce-kept : (m n : List ℕ) (at : ℕ) → at + 32 ≤ length m → at + 3
 nonce-kept m n at hm hn same =
     let ln = length-nonce n at hn in
     same-lists _ _ (ln ∙ sym (length-nonce m at hm)) (λ k d h.
-      let b : k < 32 = omega arith in
-      nonce-getD n at k d hn b ∙ same (at + k) (omega arith) (omega arith) ∙ sym (nonce-getD m at k d hm b))
+    let b : k < 32 = omega arith in
+    nonce-getD n at k d hn b ∙ same (at + k) (omega arith) (omega arith) ∙ sym (nonce-getD m at k d hm b))
 
 pub word-kept : (m n : List ℕ) (at : ℕ) → getD n at 0 ≡ getD m at 0 → getD n (at + 1) 0 ≡ getD m (at + 1) 0 → word n at ≡ word m at
 word-kept m n at a b = cc
@@ -83,18 +83,18 @@ records-at cap m i d h = getD-map-counting (λ i. record-at m (place i)) 0 cap i
 
 pub heads-kept : (m n : List ℕ) → ((k : ℕ) → k < 130 → getD n k 0 ≡ getD m k 0) → heads-of n ≡ heads-of m
 heads-kept m n same = same-lists _ _ (length-heads n ∙ sym (length-heads m)) (λ c d h.
-  let b : c < 65 = omega (arith, length-heads n) in
-  heads-at n c d b ∙ word-kept m n (2 * c) (same (2 * c) (omega arith)) (same (2 * c + 1) (omega arith)) ∙ sym (heads-at m c d b))
+    let b : c < 65 = omega (arith, length-heads n) in
+    heads-at n c d b ∙ word-kept m n (2 * c) (same (2 * c) (omega arith)) (same (2 * c + 1) (omega arith)) ∙ sym (heads-at m c d b))
 
 pub heads-set : (m n : List ℕ) (c x : ℕ) → c < 65 → word n (2 * c) ≡ x → ((k : ℕ) → (k < 2 * c) ⊎ (2 * c + 2 ≤ k) → getD n k 0 ≡ getD m k 0) → heads-of n ≡ set (heads-of m) c x
 heads-set m n c x lt there same = same-lists _ _ (length-heads n ∙ sym (length-set (heads-of m) c x ∙ length-heads m)) (λ j d h.
-  let b : j < 65 = omega (arith, length-heads n) in
-  ⊎-elim
-  (λ (q : j ≡ c). subst (λ y. getD (heads-of n) y d ≡ getD (set (heads-of m) c x) y d) (sym q)
+    let b : j < 65 = omega (arith, length-heads n) in
+    ⊎-elim
+    (λ (q : j ≡ c). subst (λ y. getD (heads-of n) y d ≡ getD (set (heads-of m) c x) y d) (sym q)
     (heads-at n c d lt ∙ there ∙ sym (getD-set-same (heads-of m) c x d (omega (arith, length-heads m)))))
-  (λ (ne : j ≡ c → ⊥). heads-at n j d b ∙ word-kept m n (2 * j) (same (2 * j) (apart j c ne)) (same (2 * j + 1) (apart-next j c ne))
+    (λ (ne : j ≡ c → ⊥). heads-at n j d b ∙ word-kept m n (2 * j) (same (2 * j) (apart j c ne)) (same (2 * j + 1) (apart-next j c ne))
     ∙ sym (getD-set-other (heads-of m) c j x d ne ∙ heads-at m j d b))
-  (cases-eq j c))
+    (cases-eq j c))
   where
     apart : (j c : ℕ) → (j ≡ c → ⊥) → (2 * j < 2 * c) ⊎ (2 * c + 2 ≤ 2 * j)
     apart j c ne = ⊎-elim (λ (l : j < c). inl (omega arith)) (λ (l : c ≤ j). inr (omega arith)) (cases-lt j c)
@@ -104,28 +104,28 @@ heads-set m n c x lt there same = same-lists _ _ (length-heads n ∙ sym (length
 
 pub records-kept : (cap : ℕ) (m n : List ℕ) → place cap ≤ length m → length n ≡ length m → ((k : ℕ) → 132 ≤ k → k < place cap → getD n k 0 ≡ getD m k 0) → records-of cap n ≡ records-of cap m
 records-kept cap m n fits long same = same-lists _ _ (length-records cap n ∙ sym (length-records cap m)) (λ i d h.
-  let b : i < cap = omega (arith, length-records cap n) in
-  records-at cap n i d b ∙ record-kept m n (place i) (omega arith) (omega arith) (λ k lo hi. same k (omega arith) (omega arith)) ∙ sym (records-at cap m i d b))
+    let b : i < cap = omega (arith, length-records cap n) in
+    records-at cap n i d b ∙ record-kept m n (place i) (omega arith) (omega arith) (λ k lo hi. same k (omega arith) (omega arith)) ∙ sym (records-at cap m i d b))
 
 pub records-set : (cap : ℕ) (m n : List ℕ) (i : ℕ) (e : Entry) → i < cap → place cap ≤ length m → length n ≡ length m → record-at n (place i) ≡ e
-  → ((k : ℕ) → (k < place i) ⊎ (place i + 36 ≤ k) → getD n k 0 ≡ getD m k 0) → records-of cap n ≡ set (records-of cap m) i e
+    → ((k : ℕ) → (k < place i) ⊎ (place i + 36 ≤ k) → getD n k 0 ≡ getD m k 0) → records-of cap n ≡ set (records-of cap m) i e
 records-set cap m n i e lt fits long there same = same-lists _ _ (length-records cap n ∙ sym (length-set (records-of cap m) i e ∙ length-records cap m)) (λ j d h.
-  let b : j < cap = omega (arith, length-records cap n) in
-  ⊎-elim
-  (λ (q : j ≡ i). subst (λ y. getD (records-of cap n) y d ≡ getD (set (records-of cap m) i e) y d) (sym q)
+    let b : j < cap = omega (arith, length-records cap n) in
+    ⊎-elim
+    (λ (q : j ≡ i). subst (λ y. getD (records-of cap n) y d ≡ getD (set (records-of cap m) i e) y d) (sym q)
     (records-at cap n i d lt ∙ there ∙ sym (getD-set-same (records-of cap m) i e d (omega (arith, length-records cap m)))))
-  (λ (ne : j ≡ i → ⊥). records-at cap n j d b
+    (λ (ne : j ≡ i → ⊥). records-at cap n j d b
     ∙ record-kept m n (place j) (omega arith) (omega arith) (λ k lo hi. same k (apart j i k ne lo hi))
     ∙ sym (getD-set-other (records-of cap m) i j e d ne ∙ records-at cap m j d b))
-  (cases-eq j i))
+    (cases-eq j i))
   where
     apart : (j i k : ℕ) → (j ≡ i → ⊥) → place j ≤ k → k < place j + 36 → (k < place i) ⊎ (place i + 36 ≤ k)
     apart j i k ne lo hi = ⊎-elim (λ (l : j < i). inl (omega arith)) (λ (l : i ≤ j). inr (omega arith)) (cases-lt j i)
 
 pub later-kept : (cap : ℕ) (m n : List ℕ) → length n ≡ length m → ((k : ℕ) → place cap ≤ k → getD n k 0 ≡ getD m k 0) → drop (place cap) n ≡ drop (place cap) m
 later-kept cap m n long same = same-lists _ _ (length-drop (place cap) n ∙ ap (λ x. x - place cap) long ∙ sym (length-drop (place cap) m)) (λ k d h.
-  let b : place cap + k < length n = omega (arith, length-drop (place cap) n) in
-  getD-drop (place cap) n k d ∙ getD-default n (place cap + k) d 0 b ∙ same (place cap + k) (omega arith) ∙ getD-default m (place cap + k) 0 d (omega arith) ∙ sym (getD-drop (place cap) m k d))
+    let b : place cap + k < length n = omega (arith, length-drop (place cap) n) in
+    getD-drop (place cap) n k d ∙ getD-default n (place cap + k) d 0 b ∙ same (place cap + k) (omega arith) ∙ getD-default m (place cap + k) 0 d (omega arith) ∙ sym (getD-drop (place cap) m k d))
 
 -- ---- records by their numbers
 pub put-number : (es : List Entry) (n : ℕ) (e : Entry) → 1 ≤ n → put es n e ≡ set es (n - 1) e

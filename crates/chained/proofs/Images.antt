@@ -27,7 +27,7 @@ joined-map f g (x ∷ xs) = ap (λ w. f (g x) ++ w) (joined-map f g xs)
 
 -- parts of one width, one after another
 joined-cut : (f : ℕ → List ℕ) (w base : ℕ) (m : List ℕ) (a n : ℕ) → ((i : ℕ) → a ≤ i → i < a + n → f i ≡ take w (drop (base + w * i) m))
-  → joined f (counting a n) ≡ take (w * n) (drop (base + w * a) m)
+    → joined f (counting a n) ≡ take (w * n) (drop (base + w * a) m)
 joined-cut f w base m a zero s = let e : w * 0 ≡ 0 = omega (arith, native.Mathlib.Nat.mul-zero w) in ap (λ k. take k (drop (base + w * a) m)) (sym e)
 joined-cut f w base m a (suc n) s =
     let here = s a (omega arith) (omega arith) in
@@ -56,25 +56,25 @@ record-is m at fits bytes =
     ap (λ w. w ++ (two (word m (at + 2)) ++ take 32 (drop (at + 4) m))) (two-at m at (omega arith) bytes)
     ∙ ap (λ w. take 2 (drop at m) ++ (w ++ take 32 (drop (at + 4) m))) (two-at m (at + 2) (omega arith) bytes)
     ∙ sym (take-add 2 34 (drop at m)
-      ∙ ap (λ w. take 2 (drop at m) ++ take 34 w) (drop-drop 2 at m)
-      ∙ ap (λ w. take 2 (drop at m) ++ w) (take-add 2 32 (drop (at + 2) m)
-        ∙ ap (λ w. take 2 (drop (at + 2) m) ++ take 32 w) (drop-drop 2 (at + 2) m ∙ (let e : at + 2 + 2 ≡ at + 4 = omega arith in ap (λ k. drop k m) e))))
+    ∙ ap (λ w. take 2 (drop at m) ++ take 34 w) (drop-drop 2 at m)
+    ∙ ap (λ w. take 2 (drop at m) ++ w) (take-add 2 32 (drop (at + 2) m)
+    ∙ ap (λ w. take 2 (drop (at + 2) m) ++ take 32 w) (drop-drop 2 (at + 2) m ∙ (let e : at + 2 + 2 ≡ at + 4 = omega arith in ap (λ k. drop k m) e))))
 
 -- ---- the whole
 pub one-image : One-image
 unfolding image table-of
 one-image cap m fits bytes =
     let heads : joined two (map (λ c. word m (2 * c)) (counting 0 65)) ≡ take 130 m =
-      joined-map two (λ c. word m (2 * c)) (counting 0 65)
-      ∙ joined-cut (λ c. two (word m (2 * c))) 2 0 m 0 65 (λ c lo hi. two-at m (2 * c) (omega arith) bytes ∙ (let e : 2 * c ≡ 0 + 2 * c = omega arith in ap (λ k. take 2 (drop k m)) e)) in
+    joined-map two (λ c. word m (2 * c)) (counting 0 65)
+    ∙ joined-cut (λ c. two (word m (2 * c))) 2 0 m 0 65 (λ c lo hi. two-at m (2 * c) (omega arith) bytes ∙ (let e : 2 * c ≡ 0 + 2 * c = omega arith in ap (λ k. take 2 (drop k m)) e)) in
     let size : two (word m 130) ≡ take 2 (drop 130 m) = two-at m 130 (omega arith) bytes in
     let rows : joined record-of (map (λ i. record-at m (place i)) (counting 0 cap)) ≡ take (36 * cap) (drop 132 m) =
-      joined-map record-of (λ i. record-at m (place i)) (counting 0 cap)
-      ∙ joined-cut (λ i. record-of (record-at m (place i))) 36 132 m 0 cap (λ i lo hi. record-is m (place i) (omega arith) bytes) in
+    joined-map record-of (λ i. record-at m (place i)) (counting 0 cap)
+    ∙ joined-cut (λ i. record-of (record-at m (place i))) 36 132 m 0 cap (λ i lo hi. record-is m (place i) (omega arith) bytes) in
     let tail : drop (place cap) m ≡ drop (36 * cap) (drop 132 m) = sym (drop-drop (36 * cap) 132 m) in
     sym (take-append-drop 130 m)
     ∙ ap (λ w. take 130 m ++ w) (sym (take-append-drop 2 (drop 130 m)) ∙ ap (λ w. take 2 (drop 130 m) ++ w) (drop-drop 2 130 m ∙ sym (take-append-drop (36 * cap) (drop 132 m))))
     ∙ ap (λ w. take 130 m ++ (take 2 (drop 130 m) ++ (take (36 * cap) (drop 132 m) ++ w))) (sym tail)
     ∙ sym (ap (λ w. w ++ (two (word m 130) ++ (joined record-of (map (λ i. record-at m (place i)) (counting 0 cap)) ++ drop (place cap) m))) heads
-      ∙ ap (λ w. take 130 m ++ (w ++ (joined record-of (map (λ i. record-at m (place i)) (counting 0 cap)) ++ drop (place cap) m))) size
-      ∙ ap (λ w. take 130 m ++ (take 2 (drop 130 m) ++ (w ++ drop (place cap) m))) rows)
+    ∙ ap (λ w. take 130 m ++ (w ++ (joined record-of (map (λ i. record-at m (place i)) (counting 0 cap)) ++ drop (place cap) m))) size
+    ∙ ap (λ w. take 130 m ++ (take 2 (drop 130 m) ++ (w ++ drop (place cap) m))) rows)

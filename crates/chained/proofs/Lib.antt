@@ -1,3 +1,4 @@
 pub mod Frames
 pub mod Writes
 pub mod Images
+pub mod Books

@@ -56,15 +56,14 @@ no-record cap m n e none =
 
 -- a word is written
 module _ (cap : ℕ) (m n : List ℕ) (at x : ℕ) (fits : place cap ≤ length m) (long : length n ≡ length m)
-  (there : word n at ≡ x) (same : (k : ℕ) → (k < at) ⊎ (at + 2 ≤ k) → getD n k 0 ≡ getD m k 0) (bytes : Bytes n) where
-
+    (there : word n at ≡ x) (same : (k : ℕ) → (k < at) ⊎ (at + 2 ≤ k) → getD n k 0 ≡ getD m k 0) (bytes : Bytes n) where
   pub head-written : (c : ℕ) → c < 65 → at ≡ 2 * c → Written cap m n (with-head (table-of cap m) c x)
   head-written c lt is = record {
     table = parts cap m n (set (heads-of m) c x) (word m 130) (records-of cap m)
         (heads-set m n c x lt (subst (λ y. word n y ≡ x) is there) (λ k s. same k (subst (λ y. (k < y) ⊎ (y + 2 ≤ k)) (sym is) s)))
         (word-kept m n 130 (same 130 (inr (omega arith))) (same 131 (inr (omega arith))))
         (records-kept cap m n fits long (λ k lo hi. same k (inr (omega arith))))
-      ∙ sym (ap (λ (t : Table). with-head t c x) (table-is cap m));
+        ∙ sym (ap (λ (t : Table). with-head t c x) (table-is cap m));
     later = later-kept cap m n long (λ k lo. same k (inr (omega arith)));
     bytes = bytes;
   }
@@ -75,22 +74,21 @@ module _ (cap : ℕ) (m n : List ℕ) (at x : ℕ) (fits : place cap ≤ length 
         (heads-kept m n (λ k lt. same k (inl (omega arith))))
         (subst (λ y. word n y ≡ x) is there)
         (records-kept cap m n fits long (λ k lo hi. same k (inr (omega arith))))
-      ∙ sym (ap (λ (t : Table). with-size t x) (table-is cap m));
+        ∙ sym (ap (λ (t : Table). with-size t x) (table-is cap m));
     later = later-kept cap m n long (λ k lo. same k (inr (omega arith)));
     bytes = bytes;
   }
 
 -- a record is written
 module _ (cap : ℕ) (m n : List ℕ) (number : ℕ) (e : Entry) (fits : place cap ≤ length m) (long : length n ≡ length m)
-  (lo : 1 ≤ number) (hi : number ≤ cap) (there : record-at n (place (number - 1)) ≡ e)
-  (same : (k : ℕ) → (k < place (number - 1)) ⊎ (place (number - 1) + 36 ≤ k) → getD n k 0 ≡ getD m k 0) where
-
+    (lo : 1 ≤ number) (hi : number ≤ cap) (there : record-at n (place (number - 1)) ≡ e)
+    (same : (k : ℕ) → (k < place (number - 1)) ⊎ (place (number - 1) + 36 ≤ k) → getD n k 0 ≡ getD m k 0) where
   pub record-table : table-of cap n ≡ with-entry (table-of cap m) number e
   record-table =
       parts cap m n (heads-of m) (word m 130) (put (records-of cap m) number e)
-        (heads-kept m n (λ k lt. same k (inl (omega arith))))
-        (word-kept m n 130 (same 130 (inl (omega arith))) (same 131 (inl (omega arith))))
-        (records-set cap m n (number - 1) e (omega arith) fits long there same ∙ sym (put-number (records-of cap m) number e lo))
+      (heads-kept m n (λ k lt. same k (inl (omega arith))))
+      (word-kept m n 130 (same 130 (inl (omega arith))) (same 131 (inl (omega arith))))
+      (records-set cap m n (number - 1) e (omega arith) fits long there same ∙ sym (put-number (records-of cap m) number e lo))
       ∙ sym (ap (λ (t : Table). with-entry t number e) (table-is cap m))
 
   pub record-later : drop (place cap) n ≡ drop (place cap) m
@@ -98,15 +96,14 @@ module _ (cap : ℕ) (m n : List ℕ) (number : ℕ) (e : Entry) (fits : place c
 
 -- the whole table is zeroed
 module _ (cap : ℕ) (m n : List ℕ) (fits : place cap ≤ length m) (long : length n ≡ length m)
-  (zeros : (k : ℕ) → k < place cap → getD n k 0 ≡ 0) (same : (k : ℕ) → place cap ≤ k → getD n k 0 ≡ getD m k 0) (bytes : Bytes n) where
-
+    (zeros : (k : ℕ) → k < place cap → getD n k 0 ≡ 0) (same : (k : ℕ) → place cap ≤ k → getD n k 0 ≡ getD m k 0) (bytes : Bytes n) where
   zero-word : (k : ℕ) → k + 1 < place cap → word n k ≡ 0
   zero-word k lt = let a = zeros k (omega arith) in let b = zeros (k + 1) lt in omega arith
 
   zero-nonce : (k : ℕ) → k + 32 ≤ place cap → take 32 (drop k n) ≡ replicate 32 0
   zero-nonce k le = same-lists _ _ (length-nonce n k (omega arith) ∙ sym (length-replicate {A = ℕ} 32 0)) (λ j d h.
-    let b : j < 32 = omega (arith, length-nonce n k (omega arith)) in
-    nonce-getD n k j d (omega arith) b ∙ zeros (k + j) (omega arith) ∙ sym (getD-replicate 32 j 0 d b))
+      let b : j < 32 = omega (arith, length-nonce n k (omega arith)) in
+      nonce-getD n k j d (omega arith) b ∙ zeros (k + j) (omega arith) ∙ sym (getD-replicate 32 j 0 d b))
 
   zero-record : (i : ℕ) → i < cap → record-at n (place i) ≡ blank
   zero-record i lt =
@@ -117,11 +114,11 @@ module _ (cap : ℕ) (m n : List ℕ) (fits : place cap ≤ length m) (long : le
   pub zero-written : Written cap m n (zeroed cap)
   zero-written = record {
     table = parts cap m n (replicate 65 0) 0 (replicate cap blank)
-      (same-lists _ _ (length-heads n ∙ sym (length-replicate {A = ℕ} 65 0)) (λ c d h.
+        (same-lists _ _ (length-heads n ∙ sym (length-replicate {A = ℕ} 65 0)) (λ c d h.
         let b : c < 65 = omega (arith, length-heads n) in
         heads-at n c d b ∙ zero-word (2 * c) (omega arith) ∙ sym (getD-replicate 65 c 0 d b)))
-      (zero-word 130 (omega arith))
-      (same-lists _ _ (length-records cap n ∙ sym (length-replicate cap blank)) (λ i d h.
+        (zero-word 130 (omega arith))
+        (same-lists _ _ (length-records cap n ∙ sym (length-replicate cap blank)) (λ i d h.
         let b : i < cap = omega (arith, length-records cap n) in
         records-at cap n i d b ∙ zero-record i b ∙ sym (getD-replicate cap i blank d b)));
     later = later-kept cap m n long same;
@@ -130,8 +127,8 @@ module _ (cap : ℕ) (m n : List ℕ) (fits : place cap ≤ length m) (long : le
 
 -- a record's next is written
 pub next-written : (cap : ℕ) (m n : List ℕ) (number v at : ℕ) → place cap ≤ length m → length n ≡ length m → 1 ≤ number → number ≤ cap → at ≡ place (number - 1)
-  → word n at ≡ v → ((k : ℕ) → (k < at) ⊎ (at + 2 ≤ k) → getD n k 0 ≡ getD m k 0) → Bytes n
-  → Written cap m n (with-next (table-of cap m) number v)
+    → word n at ≡ v → ((k : ℕ) → (k < at) ⊎ (at + 2 ≤ k) → getD n k 0 ≡ getD m k 0) → Bytes n
+    → Written cap m n (with-next (table-of cap m) number v)
 next-written cap m n number v at fits long lo hi is there same bytes =
     let i = number - 1 in
     let old = read-record cap m number lo hi in
@@ -139,11 +136,11 @@ next-written cap m n number v at fits long lo hi is there same bytes =
     let epochs : word n (place i + 2) ≡ word m (place i + 2) = word-kept m n (place i + 2) (same (place i + 2) (inr (omega arith))) (same (place i + 2 + 1) (inr (omega arith))) in
     let nonces : take 32 (drop (place i + 4) n) ≡ take 32 (drop (place i + 4) m) = nonce-kept m n (place i + 4) (omega arith) (omega arith) (λ k low high. same k (inr (omega arith))) in
     let e : record-at n (place i) ≡ record { next = v; epoch = word m (place i + 2); nonce = take 32 (drop (place i + 4) m) } =
-      ap (λ x. record { next = x; epoch = word n (place i + 2); nonce = take 32 (drop (place i + 4) n) }) (subst (λ y. word n y ≡ v) is there)
-      ∙ ap (λ x. record { next = v; epoch = x; nonce = take 32 (drop (place i + 4) n) }) epochs
-      ∙ ap (λ x. record { next = v; epoch = word m (place i + 2); nonce = x }) nonces in
+    ap (λ x. record { next = x; epoch = word n (place i + 2); nonce = take 32 (drop (place i + 4) n) }) (subst (λ y. word n y ≡ v) is there)
+    ∙ ap (λ x. record { next = v; epoch = x; nonce = take 32 (drop (place i + 4) n) }) epochs
+    ∙ ap (λ x. record { next = v; epoch = word m (place i + 2); nonce = x }) nonces in
     let now-old : record { next = v; epoch = word m (place i + 2); nonce = take 32 (drop (place i + 4) m) } ≡ record { next = v; epoch = Rattle.chains.specs.Tables.at (table-of cap m) number .epoch; nonce = Rattle.chains.specs.Tables.at (table-of cap m) number .nonce } =
-      ap (λ (x : Entry). record { next = v; epoch = x .epoch; nonce = x .nonce }) (sym old) in
+    ap (λ (x : Entry). record { next = v; epoch = x .epoch; nonce = x .nonce }) (sym old) in
     let out : (k : ℕ) → (k < place i) ⊎ (place i + 36 ≤ k) → getD n k 0 ≡ getD m k 0 = λ k s. same k (⊎-elim (λ (l : k < place i). inl (omega arith)) (λ (l : place i + 36 ≤ k). inr (omega arith)) s) in
     record {
       table = record-table cap m n number _ fits long lo hi (e ∙ now-old) out;
@@ -153,11 +150,11 @@ next-written cap m n number v at fits long lo hi is there same bytes =
 
 -- a whole record is written, part by part
 pub put-written : (cap : ℕ) (m a b n : List ℕ) (number v epoch at : ℕ) (nonce : List ℕ) → place cap ≤ length m → length a ≡ length m → length b ≡ length a → length n ≡ length b
-  → 1 ≤ number → number ≤ cap → at ≡ place (number - 1)
-  → word a at ≡ v → ((k : ℕ) → (k < at) ⊎ (at + 2 ≤ k) → getD a k 0 ≡ getD m k 0)
-  → word b (at + 2) ≡ epoch → ((k : ℕ) → (k < at + 2) ⊎ (at + 2 + 2 ≤ k) → getD b k 0 ≡ getD a k 0)
-  → take 32 (drop (at + 4) n) ≡ nonce → ((k : ℕ) → (k < at + 4) ⊎ (at + 4 + 32 ≤ k) → getD n k 0 ≡ getD b k 0)
-  → Bytes n → Written cap m n (with-entry (table-of cap m) number (record { next = v; epoch = epoch; nonce = nonce }))
+    → 1 ≤ number → number ≤ cap → at ≡ place (number - 1)
+    → word a at ≡ v → ((k : ℕ) → (k < at) ⊎ (at + 2 ≤ k) → getD a k 0 ≡ getD m k 0)
+    → word b (at + 2) ≡ epoch → ((k : ℕ) → (k < at + 2) ⊎ (at + 2 + 2 ≤ k) → getD b k 0 ≡ getD a k 0)
+    → take 32 (drop (at + 4) n) ≡ nonce → ((k : ℕ) → (k < at + 4) ⊎ (at + 4 + 32 ≤ k) → getD n k 0 ≡ getD b k 0)
+    → Bytes n → Written cap m n (with-entry (table-of cap m) number (record { next = v; epoch = epoch; nonce = nonce }))
 put-written cap m a b n number v epoch at nonce fits la lb ln lo hi is w1 s1 w2 s2 w3 s3 bytes =
     let i = number - 1 in
     let inside : place i + 36 ≤ length m = omega arith in
@@ -165,13 +162,13 @@ put-written cap m a b n number v epoch at nonce fits la lb ln lo hi is w1 s1 w2 
     let next-is : word n at ≡ v = word-kept b n at (s3 at (inl (omega arith))) (s3 (at + 1) (inl (omega arith))) ∙ word-kept a b at (s2 at (inl (omega arith))) (s2 (at + 1) (inl (omega arith))) ∙ w1 in
     let epoch-is : word n (at + 2) ≡ epoch = word-kept b n (at + 2) (s3 (at + 2) (inl (omega arith))) (s3 (at + 2 + 1) (inl (omega arith))) ∙ w2 in
     let there : record-at n at ≡ record { next = v; epoch = epoch; nonce = nonce } =
-      ap (λ x. record { next = x; epoch = word n (at + 2); nonce = take 32 (drop (at + 4) n) }) next-is
-      ∙ ap (λ x. record { next = v; epoch = x; nonce = take 32 (drop (at + 4) n) }) epoch-is
-      ∙ ap (λ x. record { next = v; epoch = epoch; nonce = x }) w3 in
+    ap (λ x. record { next = x; epoch = word n (at + 2); nonce = take 32 (drop (at + 4) n) }) next-is
+    ∙ ap (λ x. record { next = v; epoch = x; nonce = take 32 (drop (at + 4) n) }) epoch-is
+    ∙ ap (λ x. record { next = v; epoch = epoch; nonce = x }) w3 in
     let e : record-at n (place i) ≡ record { next = v; epoch = epoch; nonce = nonce } = subst (λ y. record-at n y ≡ record { next = v; epoch = epoch; nonce = nonce }) is there in
     let out : (k : ℕ) → (k < place i) ⊎ (place i + 36 ≤ k) → getD n k 0 ≡ getD m k 0 = λ k s. ⊎-elim
-      (λ (l : k < place i). s3 k (inl (omega arith)) ∙ s2 k (inl (omega arith)) ∙ s1 k (inl (omega arith)))
-      (λ (l : place i + 36 ≤ k). s3 k (inr (omega arith)) ∙ s2 k (inr (omega arith)) ∙ s1 k (inr (omega arith))) s in
+    (λ (l : k < place i). s3 k (inl (omega arith)) ∙ s2 k (inl (omega arith)) ∙ s1 k (inl (omega arith)))
+    (λ (l : place i + 36 ≤ k). s3 k (inr (omega arith)) ∙ s2 k (inr (omega arith)) ∙ s1 k (inr (omega arith))) s in
     record {
       table = record-table cap m n number _ fits long lo hi e out;
       later = record-later cap m n number _ fits long lo hi e out;

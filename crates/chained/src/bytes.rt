@@ -12,6 +12,7 @@ use chains::CHAINS;
 const SIZE: usize = 130;
 // Where the records begin, and how long one is.
 const RECORDS: usize = 132;
+
 const RECORD: usize = 36;
 
 // The number in two bytes.

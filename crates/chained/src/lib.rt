@@ -1,6 +1,7 @@
 mod bytes;
 mod chained_book;
 mod rows;
+
 pub use chained_book::ChainedBook;
 pub use chained_book::ChainedIsBook;
 pub use chained_book::capacities_are_worked;

@@ -25,9 +25,10 @@ use Rattle.chains.proofs.Soundness.{fits-from-sound, chain-is, pairs-is, sound
 pub found : Found
 unfolding Chained pairs
 found t p s =
-    let fits = fits-from-sound t s in
-    (λ h. own-has (pair-at t) (chain t) 0 64 (chain-of (p .1)) p (omega arith) (chain-below (p .1)) h,
-     λ h. has-own (pair-at t) (λ q. chain-of (q .1)) (chain t) 0 64 p (λ d lo hi. fits .placed d hi) h)
+    let fits = fits-from-sound t s in (
+      λ h. own-has (pair-at t) (chain t) 0 64 (chain-of (p .1)) p (omega arith) (chain-below (p .1)) h,
+      λ h. has-own (pair-at t) (λ q. chain-of (q .1)) (chain t) 0 64 p (λ d lo hi. fits .placed d hi) h,
+    )
 
 pub cleared-chains : Cleared-chains
 cleared-chains n some =
@@ -64,7 +65,7 @@ marked-chains t p s nonce new room =
     let fits′ : Fits (marked t p) (marking.lists t ls p k fs fits first nonce) = subst (λ u. Fits u (marking.lists t ls p k fs fits first nonce)) (sym is) (marking.mark-fits t ls p k fs fits first nonce absent) in
     let ms = marking.lists t ls p k fs fits first nonce in
     let after : pairs (marked t p) ≡ marking.front t ls p k fs fits first nonce ++ p ∷ marking.back t ls p k fs fits first nonce =
-      pairs-is (marked t p) ms fits′ ∙ ap (λ u. map (pair-at u) (all-of ms)) is ∙ marking.pairs-after t ls p k fs fits first nonce in
+    pairs-is (marked t p) ms fits′ ∙ ap (λ u. map (pair-at u) (all-of ms)) is ∙ marking.pairs-after t ls p k fs fits first nonce in
     let A = marking.front t ls p k fs fits first nonce in
     let B = marking.back t ls p k fs fits first nonce in
     record {
@@ -72,8 +73,10 @@ marked-chains t p s nonce new room =
       front = chain-is (marked t p) ms fits′ c (omega arith) ∙ moved-same ls c (k ∷ ls c) fs lt;
       taken = first ∙ ap (λ w. k ∷ w) (sym (chain-is (marked t p) ms fits′ 64 (omega arith) ∙ moved-free ls c (k ∷ ls c) fs lt));
       stay = λ d l ne. chain-is (marked t p) ms fits′ d (omega arith) ∙ moved-other ls c (k ∷ ls c) fs lt d l ne;
-      added = λ q. (λ h. ⊎-elim (λ (x : Has (A ++ B) q). inl (subst (λ w. Has w q) (sym before) x)) (λ (x : q ≡ p). inr x) (inserted-cases A B p q (subst (λ w. Has w q) after h)),
-        λ h. subst (λ w. Has w q) (sym after) (inserted-has A B p q (⊎-elim (λ (x : Has (pairs t) q). inl (subst (λ w. Has w q) before x)) (λ (x : q ≡ p). inr x) h)));
+      added = λ q. (
+        λ h. ⊎-elim (λ (x : Has (A ++ B) q). inl (subst (λ w. Has w q) (sym before) x)) (λ (x : q ≡ p). inr x) (inserted-cases A B p q (subst (λ w. Has w q) after h)),
+        λ h. subst (λ w. Has w q) (sym after) (inserted-has A B p q (⊎-elim (λ (x : Has (pairs t) q). inl (subst (λ w. Has w q) before x)) (λ (x : q ≡ p). inr x) h)),
+      );
       places = ap (λ (u : Table). length (u .entries)) is ∙ length-put (t .entries) k (record { next = head t c; epoch = p .0; nonce = p .1 });
     }
 

@@ -199,5 +199,4 @@ pub fn chains_keep_a_set()
     ensures clear { λ _. ⌜ Cleared-chains ⌝ }
     ensures mark { λ _. ⌜ Marked-chains ⌝ }
     ensures drop { λ _. ⌜ Dropped-chains ⌝ }
-{
-}
+{}

@@ -39,14 +39,12 @@ pub fn capacity_in(len: usize) -> Result<u16, WireFault>
 // The capacities at the edges.
 pub fn capacities_are_worked()
     ensures { λ _. ⌜ Capacities ⌝ }
-{
-}
+{}
 
 // No byte in front of the later ones is free.
 pub fn memory_is_the_image()
     ensures { λ _. ⌜ One-image ⌝ }
-{
-}
+{}
 
 impl<'a> ChainedBook<'a> {
     // An empty book over all of the memory that holds a whole record.

@@ -10,9 +10,9 @@ returns-then-is-record c =
     let epoch = c .put-word-then-is-record .ensures in
     let nonce = c .put-nonce .ensures in
     put-written (c .args .capacity) (c .args .m .now) (c .put-word .last .m) (c .put-word-then-is-record .last .m) (c .put-nonce .last .m)
-      (c .args .number) (c .args .next) (c .args .epoch) (c .start-at .result) (c .args .nonce .now)
-      (c .pre) (c .put-word .kept .m) (c .put-word-then-is-record .kept .m) (c .put-nonce .kept .m) (some .0) (some .1) (c .start-at .ensures)
-      (next .there) (next .others) (epoch .there) (epoch .others) (nonce .there) (nonce .others) (λ k. let t = c .typed .m k in omega arith)
+    (c .args .number) (c .args .next) (c .args .epoch) (c .start-at .result) (c .args .nonce .now)
+    (c .pre) (c .put-word .kept .m) (c .put-word-then-is-record .kept .m) (c .put-nonce .kept .m) (some .0) (some .1) (c .start-at .ensures)
+    (next .there) (next .others) (epoch .there) (epoch .others) (nonce .there) (nonce .others) (λ k. let t = c .typed .m k in omega arith)
 
 pub returns-else-is-record : need.returns-else-is-record
 returns-else-is-record c =

@@ -7,7 +7,7 @@ pub returns-then-is-record : need.returns-then-is-record
 returns-then-is-record c =
     let some = c .is-record .ensures .0 (c .if-is-record .taken) in
     next-written (c .args .capacity) (c .args .m .now) (c .put-word .last .m) (c .args .number) (c .args .next) _ (c .pre) (c .put-word .kept .m) (some .0) (some .1) (c .start .ensures)
-      (c .put-word .ensures .there) (c .put-word .ensures .others) (λ k. let t = c .typed .m k in omega arith)
+    (c .put-word .ensures .there) (c .put-word .ensures .others) (λ k. let t = c .typed .m k in omega arith)
 
 pub returns-else-is-record : need.returns-else-is-record
 returns-else-is-record c =

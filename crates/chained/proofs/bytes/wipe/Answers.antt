@@ -21,6 +21,6 @@ returns c =
     let n-is : n ≡ to - 0 = length-take-le (to - 0) (drop 0 m) (omega (arith, length-drop 0 m)) in
     let long : length ys ≡ to - 0 = ap length zeros ∙ length-replicate n 0 ∙ n-is in
     subst (λ n. Written (c .args .capacity) m (putMid 0 (to - 0) m ys) (zeroed n)) (sym (read-places (c .args .capacity) m)) (zero-written (c .args .capacity) m (putMid 0 (to - 0) m ys) (c .pre) (put-length m ys 0 (to - 0) (omega arith) long)
-      (λ k hi. put-inside m ys 0 (to - 0) k (omega arith) long (omega arith) (omega arith) ∙ ap (λ w. getD w (k - 0) 0) zeros ∙ getD-replicate n (k - 0) 0 0 (omega arith))
-      (λ k lo. put-outside m ys 0 (to - 0) k (omega arith) long (inr (omega arith)))
-      (λ k. let t = c .typed .m k in omega arith))
+    (λ k hi. put-inside m ys 0 (to - 0) k (omega arith) long (omega arith) (omega arith) ∙ ap (λ w. getD w (k - 0) 0) zeros ∙ getD-replicate n (k - 0) 0 0 (omega arith))
+    (λ k lo. put-outside m ys 0 (to - 0) k (omega arith) long (inr (omega arith)))
+    (λ k. let t = c .typed .m k in omega arith))
