@@ -139,9 +139,9 @@ next-written cap m n number v at fits long lo hi is there same bytes =
     ap (λ x. record { next = x; epoch = word n (place i + 2); nonce = take 32 (drop (place i + 4) n) }) (subst (λ y. word n y ≡ v) is there)
     ∙ ap (λ x. record { next = v; epoch = x; nonce = take 32 (drop (place i + 4) n) }) epochs
     ∙ ap (λ x. record { next = v; epoch = word m (place i + 2); nonce = x }) nonces in
+    let out : (k : ℕ) → (k < place i) ⊎ (place i + 36 ≤ k) → getD n k 0 ≡ getD m k 0 = λ k s. same k (⊎-elim (λ (l : k < place i). inl (omega arith)) (λ (l : place i + 36 ≤ k). inr (omega arith)) s) in
     let now-old : record { next = v; epoch = word m (place i + 2); nonce = take 32 (drop (place i + 4) m) } ≡ record { next = v; epoch = Rattle.chains.specs.Tables.at (table-of cap m) number .epoch; nonce = Rattle.chains.specs.Tables.at (table-of cap m) number .nonce } =
     ap (λ (x : Entry). record { next = v; epoch = x .epoch; nonce = x .nonce }) (sym old) in
-    let out : (k : ℕ) → (k < place i) ⊎ (place i + 36 ≤ k) → getD n k 0 ≡ getD m k 0 = λ k s. same k (⊎-elim (λ (l : k < place i). inl (omega arith)) (λ (l : place i + 36 ≤ k). inr (omega arith)) s) in
     record {
       table = record-table cap m n number _ fits long lo hi (e ∙ now-old) out;
       later = record-later cap m n number _ fits long lo hi (e ∙ now-old) out;

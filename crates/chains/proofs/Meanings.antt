@@ -13,7 +13,9 @@ use Rattle.book.specs.Meaning.{Pair, Exactly, others}
 use Rattle.chains.specs.Tables.{Table, at, head, pair-of, chain-of, free, cleared, marked, dropped}
 use Rattle.chains.specs.Chains.{chain, used, pairs, of, fronted, Sound}
 use Rattle.chains.specs.Calls.{Chained}
-use Rattle.chains.specs.Laws.{Found, Clears, Cleared-chains, Marks-one, Marked-chains, Drops, Dropped-chains}
+use Rattle.std.specs.declared.result.Result.the-variants.{Ok, Err}
+use Rattle.faults.specs.declared.BookFault.the-variants.{Spent, Full}
+use Rattle.chains.specs.Laws.{One-answer, Found, Clears, Cleared-chains, Marks-one, Marked-chains, Drops, Dropped-chains}
 use Rattle.chains.proofs.Links.{Linked, length-put}
 use Rattle.chains.proofs.Joins.{has-own, own-has, inserted-cases, inserted-has}
 use Rattle.chains.proofs.Fits.{all-of, pair-at, Fits, moved-same, moved-free, moved-other, chain-below}
@@ -21,6 +23,17 @@ use Rattle.chains.proofs.Marking as marking
 use Rattle.chains.proofs.Dropping.{drop-lists, drop-fits, drop-chain, drop-free, drop-long, drop-pairs}
 use Rattle.chains.proofs.Clearing.{clear-lists, clear-free, clear-empty, clear-none, clear-fits}
 use Rattle.chains.proofs.Soundness.{fits-from-sound, chain-is, pairs-is, sound-from-fits}
+
+pub one-answer : One-answer
+one-answer t p (Ok x) (Ok y) u v a b = (refl, a .2 ∙ sym (b .2))
+one-answer t p (Ok x) (Err Spent) u v a b = absurd (a .0 (b .0))
+one-answer t p (Ok x) (Err Full) u v a b = let l = a .1 in let f = b .1 in absurd (omega arith)
+one-answer t p (Err Spent) (Ok y) u v a b = absurd (b .0 (a .0))
+one-answer t p (Err Spent) (Err Spent) u v a b = (refl, a .1 ∙ sym (b .1))
+one-answer t p (Err Spent) (Err Full) u v a b = absurd (b .0 (a .0))
+one-answer t p (Err Full) (Ok y) u v a b = let f = a .1 in let l = b .1 in absurd (omega arith)
+one-answer t p (Err Full) (Err Spent) u v a b = absurd (a .0 (b .0))
+one-answer t p (Err Full) (Err Full) u v a b = (refl, a .2 ∙ sym (b .2))
 
 pub found : Found
 unfolding Chained pairs

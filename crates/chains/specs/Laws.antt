@@ -8,10 +8,16 @@ use lib.ListN.{length}
 use Rattle.std.specs.Iters.{counting}
 use Rattle.std.specs.Joined.{joined}
 use Rattle.std.specs.shelf.Lists.{Has, kept-by}
+use Rattle.std.specs.declared.result.Result.{Result}
+use Rattle.faults.specs.declared.BookFault.{BookFault}
 use Rattle.book.specs.Meaning.{Pair, Exactly, others}
 use Rattle.chains.specs.Tables.{Table, head, chain-of, free, cleared, marked, dropped}
 use Rattle.chains.specs.Chains.{chain, pairs, of, fronted, Sound}
-use Rattle.chains.specs.Calls.{Chained}
+use Rattle.chains.specs.Calls.{Chained, Marks}
+
+-- The table settles what mark answers and the table that it leaves, whatever way the records lie.
+abbrev pub One-answer : Type 0
+One-answer = (t : Table) (p : Pair) (r s : Result (Unit {0}) BookFault) (u v : Table) → Marks t p r u → Marks t p s v → (r ≡ s) × (u ≡ v)
 
 -- A pair is in the table just where it is in its own chain.
 abbrev pub Found : Type 0

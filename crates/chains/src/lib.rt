@@ -13,7 +13,7 @@ ghost use lib.ListN.{length, getD};
 ghost use Rattle.std.specs.Orderings.{Decides};
 ghost use Rattle.chains.specs.Tables.{Entry, Table, at, head, pair-of, chain-of, with-head, with-size, with-entry, with-next, zeroed, cleared, bridged, freed, swept, dropped};
 ghost use Rattle.chains.specs.Calls.{Chained, Marks};
-ghost use Rattle.chains.specs.Laws.{Found, Cleared-chains, Marked-chains, Dropped-chains};
+ghost use Rattle.chains.specs.Laws.{One-answer, Found, Cleared-chains, Marked-chains, Dropped-chains};
 use faults::BookFault;
 
 // How many chains there are. The free chain's head stands behind theirs.
@@ -165,8 +165,8 @@ fn sweep<R: RecordsMut>(records: &mut R, epoch: u16, chain: u8)
 {
     let mut before = 0;
     let mut number = records.head(chain);
-    let mut steps = records.places();
-    while number != 0 && steps > 0 {
+    let mut left = records.places();
+    while number != 0 && left > 0 {
         let next = records.next(number);
         if records.epoch(number) == epoch {
             bridge(records, chain, before, next);
@@ -175,7 +175,7 @@ fn sweep<R: RecordsMut>(records: &mut R, epoch: u16, chain: u8)
             before = number;
         }
         number = next;
-        steps -= 1;
+        left -= 1;
     }
 }
 
@@ -195,6 +195,7 @@ pub fn drop_epoch<R: RecordsMut>(records: &mut R, epoch: u16) -> u16
 // What the calls make of the chains and of the pairs, whatever way the records lie: the order in which
 // records are taken and freed, and the set of pairs that they leave.
 pub fn chains_keep_a_set()
+    ensures one { λ _. ⌜ One-answer ⌝ }
     ensures found { λ _. ⌜ Found ⌝ }
     ensures clear { λ _. ⌜ Cleared-chains ⌝ }
     ensures mark { λ _. ⌜ Marked-chains ⌝ }

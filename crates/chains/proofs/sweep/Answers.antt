@@ -13,7 +13,7 @@ loop-number-again g c =
     let t = tab (c .loop-number .records) in
     let e = c .args .epoch in
     let h = c .args .chain in
-    let s = c .loop-number .steps in
+    let s = c .loop-number .left in
     let b = c .loop-number .before in
     let k = c .loop-number .number in
     let next = c .next-next .ensures in
@@ -42,14 +42,14 @@ loop-number-again g c =
       )
     ]
 
-pub returns-else-steps-gt0 : need.returns-else-steps-gt0
-returns-else-steps-gt0 g c = record {
-  table = sym (swept-end (c .args .epoch) (c .args .chain) (c .loop-number .steps) (c .loop-number .before) (c .loop-number .number) (g .R·Records .table (c .loop-number .records)) (inr (omega arith))) ∙ c .loop-number .inv .0;
+pub returns-else-left-gt0 : need.returns-else-left-gt0
+returns-else-left-gt0 g c = record {
+  table = sym (swept-end (c .args .epoch) (c .args .chain) (c .loop-number .left) (c .loop-number .before) (c .loop-number .number) (g .R·Records .table (c .loop-number .records)) (inr (omega arith))) ∙ c .loop-number .inv .0;
   beside = c .loop-number .inv .1;
 }
 
 pub returns-after-loop-number : need.returns-after-loop-number
 returns-after-loop-number g c = record {
-  table = sym (swept-end (c .args .epoch) (c .args .chain) (c .loop-number .steps) (c .loop-number .before) (c .loop-number .number) (g .R·Records .table (c .loop-number .records)) (inl (omega arith))) ∙ c .loop-number .inv .0;
+  table = sym (swept-end (c .args .epoch) (c .args .chain) (c .loop-number .left) (c .loop-number .before) (c .loop-number .number) (g .R·Records .table (c .loop-number .records)) (inl (omega arith))) ∙ c .loop-number .inv .0;
   beside = c .loop-number .inv .1;
 }
