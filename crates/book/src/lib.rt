@@ -5,7 +5,7 @@
 // where the pairs lie, and shows that its calls do just this; what stands above uses the meaning alone,
 // so every kind serves every station. docs/BOOKS.md has the meaning in words, and how to add a kind.
 ghost use mathlib.Core.Path.{_≡_};
-ghost use Prim.Native.Nat.{ℕ, _+_};
+ghost use Prim.Native.Nat.{_+_};
 ghost use Rattle.std.specs.Orderings.{Decides};
 ghost use Rattle.std.specs.declared.result.Result.the-variants.{Ok, Err};
 ghost use Rattle.faults.specs.declared.BookFault.the-variants.{Spent, Full};
