@@ -3,13 +3,13 @@ use mathlib.Core.Path.{_≡_, refl, sym, subst, _∙_}
 use mathlib.Core.Bool.{Bool, true, false, not}
 use mathlib.Core.List.{List, [], _∷_, _++_}
 use mathlib.Core.Logic.{_⊎_, inl, inr, ⊎-elim}
-use Prim.Native.Nat.{ℕ, _+_, _<_}
+use Prim.Native.Nat.{ℕ, _+_}
 use native.Mathlib.Omega.{arith}
 use lib.Dec.{eqb}
 use lib.ListN.{length}
 use Rattle.std.specs.Orderings.{Decides}
 use Rattle.std.specs.shelf.Lists.{Has}
-use Rattle.std.proofs.shelf.Tests.{not-true, not-from-false, eqb-false, ne-eqb, false≢true}
+use Rattle.std.proofs.shelf.Tests.{not-true, not-from-false, eqb-false, ne-eqb}
 use Rattle.std.proofs.shelf.Lists.{length-push}
 use Rattle.std.proofs.shelf.Elements.{has-push, has-push-cases, has-append-left}
 use Rattle.std.proofs.shelf.Filters.{length-kept-by-both}
@@ -18,7 +18,7 @@ use Rattle.std.specs.declared.result.Result.the-variants.{Ok, Err}
 use Rattle.faults.specs.declared.BookFault.{BookFault}
 use Rattle.faults.specs.declared.BookFault.the-variants.{Spent, Full}
 use Rattle.book.specs.Meaning.{Pair, Meaning, In, size-of, Exactly, Becomes, Alike, Cleared, Marked, Dropped, others}
-use Rattle.book.specs.Runs.{Call, clear, has, mark, drop, size, capacity, Answer, Step, Answers, Runs}
+use Rattle.book.specs.Runs.{Call, clear, has, mark, drop, size, capacity, Answer, Step}
 use Rattle.book.specs.Laws.{Told-alike, Size-counts, Mark-answers, Mark-counts, Drop-counts}
 use Rattle.book.proofs.Sets.{length-same, apart-push, apart-kept, has-kept, passes-kept, kept-has, has-none}
 

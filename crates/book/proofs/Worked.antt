@@ -7,7 +7,7 @@ use Rattle.std.specs.declared.result.Result.{Result}
 use Rattle.std.specs.declared.result.Result.the-variants.{Ok, Err}
 use Rattle.faults.specs.declared.BookFault.{BookFault}
 use Rattle.faults.specs.declared.BookFault.the-variants.{Spent, Full}
-use Rattle.book.specs.Meaning.{Pair, Meaning, In, size-of, Alike, Cleared, Marked, Dropped}
+use Rattle.book.specs.Meaning.{Pair, Meaning, In, size-of, Alike, Marked, Dropped}
 use Rattle.book.specs.Laws.{One-place}
 use Rattle.book.proofs.Facts.{alike-size, none-size, added-size}
 
@@ -18,9 +18,6 @@ Empty b = ((q : Pair) → In b q → ⊥) × (b .capacity ≡ 1)
 -- a book with one place, and just this pair in it
 abbrev pub Holds : Meaning → Pair → Type 0
 Holds b p = In b p × ((q : Pair) → In b q → q ≡ p) × (size-of b ≡ 1) × (b .capacity ≡ 1)
-
-pub cleared-empty : (start b : Meaning) → start .capacity ≡ 1 → Cleared start b → Empty b
-cleared-empty start b one s = ((λ q. s .these q .0), s .room ∙ one)
 
 pub first : (b b′ : Meaning) (p : Pair) (r : Result (Unit {0}) BookFault) → Empty b → Marked b p r b′ → (r ≡ Ok tt) × Holds b′ p
 first b b′ p (Ok _) (none, one) m =
@@ -52,13 +49,13 @@ dropped b b′ p epoch r e h d =
     (omega (arith, none-size b′ none), (none, d .0 .room ∙ h .3))
 
 pub one-place : One-place
-one-place start empty end a b one differ cleared rs run =
+one-place start end a b none one differ rs run =
     let m1 = run .0 in
     let m2 = run .2 .0 in
     let m3 = run .2 .2 .0 in
     let m4 = run .2 .2 .2 .0 in
     let m5 = run .2 .2 .2 .2 .0 in
-    let s1 = first empty m1 (1, a) (rs .0) (cleared-empty start empty one cleared) (run .1) in
+    let s1 = first start m1 (1, a) (rs .0) (none, one) (run .1) in
     let s2 = again m1 m2 (1, a) (rs .1 .0) (s1 .1) (run .2 .1) in
     let s3 = other m2 m3 (1, a) (1, b) (rs .1 .1 .0) (λ e. differ (ap (λ x. x .1) (sym e))) (s2 .1) (run .2 .2 .1) in
     let s4 = dropped m3 m4 (1, a) 1 (rs .1 .1 .1 .0) refl (s3 .1) (run .2 .2 .2 .1) in

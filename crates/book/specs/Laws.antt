@@ -9,7 +9,7 @@ use Rattle.std.specs.declared.result.Result.{Result}
 use Rattle.std.specs.declared.result.Result.the-variants.{Ok, Err}
 use Rattle.faults.specs.declared.BookFault.{BookFault}
 use Rattle.faults.specs.declared.BookFault.the-variants.{Spent, Full}
-use Rattle.book.specs.Meaning.{Pair, Apart, Meaning, In, size-of, Exactly, Alike, Cleared, Marked, Dropped}
+use Rattle.book.specs.Meaning.{Pair, Apart, Meaning, In, size-of, Exactly, Alike, Marked, Dropped}
 use Rattle.book.specs.Runs.{Call, mark, drop, Answers, Runs}
 
 -- No list of calls tells two books of one set and one capacity apart: they answer each call alike,
@@ -38,9 +38,11 @@ Mark-counts = (before after : Meaning) (p : Pair)
 abbrev pub Drop-counts : Type 0
 Drop-counts = (before after : Meaning) (epoch r : ℕ) → Dropped before epoch r after → r ≡ length (kept-by (λ p. eqb (p .0) epoch) (before .pairs))
 
--- A book with one place, worked through: mark (1, a); again; mark (1, b); drop 1; mark (2, b).
+-- the calls of the worked case: mark (1, a); again; mark (1, b); drop 1; mark (2, b)
+abbrev pub worked-calls : List ℕ → List ℕ → List Call
+worked-calls a b = mark (1, a) ∷ mark (1, a) ∷ mark (1, b) ∷ drop 1 ∷ mark (2, b) ∷ []
+
+-- The worked case: an empty book with one place accepts, says spent, says full, drops one pair, accepts.
 abbrev pub One-place : Type 0
-One-place = (start empty end : Meaning) (a b : List ℕ) → start .capacity ≡ 1 → (a ≡ b → ⊥) → Cleared start empty
-    → (rs : Answers (mark (1, a) ∷ mark (1, a) ∷ mark (1, b) ∷ drop 1 ∷ mark (2, b) ∷ []))
-    → Runs empty (mark (1, a) ∷ mark (1, a) ∷ mark (1, b) ∷ drop 1 ∷ mark (2, b) ∷ []) rs end
-    → rs ≡ (Ok tt, (Err Spent, (Err Full, (1, (Ok tt, tt)))))
+One-place = (start end : Meaning) (a b : List ℕ) → ((q : Pair) → In start q → ⊥) → start .capacity ≡ 1 → (a ≡ b → ⊥)
+    → (rs : Answers (worked-calls a b)) → Runs start (worked-calls a b) rs end → rs ≡ (Ok tt, (Err Spent, (Err Full, (1, (Ok tt, tt)))))

@@ -5,12 +5,13 @@
 // where the pairs lie, and shows that its calls do just this; what stands above uses the meaning alone,
 // so every kind serves every station. docs/BOOKS.md has the meaning in words, and how to add a kind.
 ghost use mathlib.Core.Path.{_≡_};
-ghost use Prim.Native.Nat.{ℕ, _+_};
+ghost use Prim.Native.Nat.{_+_};
 ghost use Rattle.std.specs.Orderings.{Decides};
 ghost use Rattle.std.specs.declared.result.Result.the-variants.{Ok, Err};
 ghost use Rattle.faults.specs.declared.BookFault.the-variants.{Spent, Full};
 ghost use Rattle.book.specs.Meaning.{Meaning, In, size-of, Cleared, Marked, Dropped};
-ghost use Rattle.book.specs.Laws.{Told-alike, Size-counts, Mark-answers, Mark-counts, Drop-counts, One-place};
+ghost use Rattle.book.specs.Runs.{Runs};
+ghost use Rattle.book.specs.Laws.{Told-alike, Size-counts, Mark-answers, Mark-counts, Drop-counts, One-place, worked-calls};
 use faults::BookFault;
 
 pub trait Book {
@@ -72,10 +73,11 @@ pub fn places_left<B: Book>(book: &B) -> u16
     book.capacity() - book.size()
 }
 
-// What two marks of one pair, a mark of another, a drop and a last mark answer at a cleared book. Where the
-// book has one place, the answers are: accepted, spent, full, one pair dropped, accepted.
+// Clears a book, makes the calls of the worked case, and answers what they answered. Where the book has one
+// place, that is: accepted, spent, full, one pair dropped, accepted.
 pub fn one_place<B: Book>(book: &mut B, a: &[u8; 32], b: &[u8; 32]) -> OnePlace
-    ensures { λ r. ⌜ (B·Book .meaning (now (book .entry)) .capacity ≡ 1 → (now (a .entry) ≡ now (b .entry) → ⊥) → r ≡ record { first = Ok tt; again = Err Spent; other = Err Full; dropped = 1; last = Ok tt }) ⌝ }
+    ensures ran { λ r. ⌜ ((m : Meaning) × Cleared (B·Book .meaning (now (book .entry))) m × Runs m (worked-calls (now (a .entry)) (now (b .entry))) (r .first, (r .again, (r .other, (r .dropped, (r .last, tt))))) (B·Book .meaning (now (book .exit)))) ⌝ }
+    ensures worked { λ r. ⌜ (B·Book .meaning (now (book .entry)) .capacity ≡ 1 → (now (a .entry) ≡ now (b .entry) → ⊥) → r ≡ record { first = Ok tt; again = Err Spent; other = Err Full; dropped = 1; last = Ok tt }) ⌝ }
 {
     book.clear();
     let first = book.mark(1, a);

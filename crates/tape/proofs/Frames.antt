@@ -1,23 +1,18 @@
 -- Records of a tape whose bytes are the same.
-use mathlib.Core.Path.{_≡_, refl, sym, ap, subst, _∙_}
-use mathlib.Core.List.{List, [], _∷_, _++_, map}
-use mathlib.Core.Logic.{_⊎_, _≢_, inl, inr, ⊎-elim}
-use mathlib.Core.Bool.{Bool, true, false, cond, not}
-use Prim.Native.Nat.{ℕ, zero, suc, _+_, _-_, _*_, _<_, _≤_}
+use mathlib.Core.Path.{_≡_, sym, _∙_}
+use mathlib.Core.List.{List, []}
+use mathlib.Core.Logic.{_⊎_, inl, inr}
+use Prim.Native.Nat.{ℕ, _+_, _-_, _<_, _≤_}
 use native.Mathlib.Omega.{arith}
 use native.Mathlib.Nat.{add-zero, add-assoc}
-use lib.Dec.{eqb}
-use lib.ListN.{length, getD, set, take, drop}
-use Rattle.std.specs.Iters.{counting}
-use Rattle.std.specs.shelf.Lists.{Has, kept-by}
+use lib.ListN.{length, getD, take, drop}
+use Rattle.std.specs.shelf.Lists.{Has}
 use borrow.Author.Needs.{needs}
 use borrow.Rule.Slice.PartMut.{putMid}
-use Rattle.std.proofs.shelf.Tests.{cases-lt, cases-eq, not-from-true, not-from-false, eq-eqb, ne-eqb}
-use Rattle.std.proofs.shelf.Elements.{has-getD, all-has, all-kept-by, all-has-itself}
-use Rattle.std.proofs.shelf.Lists.{append-nil, getD-set-same, getD-set-other, places, length-push, getD-push, getD-append-left, same-lists, length-take-le, length-drop, getD-take, getD-drop, getD-default}
-use Rattle.std.proofs.shelf.Counted.{length-map-counting, getD-map-counting, fill-by-all, map-counting-more, kept-by-map-counting-more}
-use Rattle.book.specs.Meaning.{Pair, Apart, others}
-use Rattle.tape.specs.Layout.{word, place, pair-at, firsts, pairs-of, Fitting}
+use Rattle.std.proofs.shelf.Lists.{places, same-lists, length-take-le, length-drop, getD-take, getD-drop, getD-default}
+use Rattle.std.proofs.shelf.Counted.{length-map-counting, getD-map-counting, fill-by-all}
+use Rattle.book.specs.Meaning.{Pair}
+use Rattle.tape.specs.Layout.{word, place, pair-at, firsts}
 
 pub pair-is : (m : List ℕ) (at e : ℕ) (n : List ℕ) → word m at ≡ e → take 32 (drop (at + 2) m) ≡ n → _≡_ {A = Pair} (pair-at m at) (e, n)
 pair-is m at e n p q = cc

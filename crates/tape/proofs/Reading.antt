@@ -1,7 +1,7 @@
 -- That an image is read back as the pairs that it was made of. Assumes nothing.
 use mathlib.Core.Path.{_≡_, refl, sym, ap, _∙_}
 use mathlib.Core.List.{List, [], _∷_, _++_, map}
-use Prim.Native.Nat.{ℕ, zero, suc, _+_, _-_, _*_, _/_, _%_}
+use Prim.Native.Nat.{ℕ, suc, _+_, _-_, _*_, _/_, _%_}
 use native.Mathlib.Omega.{arith}
 use native.Mathlib.Nat.{add-zero}
 use lib.ListN.{length, getD, take, drop, replicate}
@@ -10,7 +10,7 @@ use Rattle.std.specs.shelf.Lists.{All, joined}
 use Rattle.std.proofs.shelf.Bits.{div-add-mod'}
 use Rattle.std.proofs.shelf.Lists.{append-assoc, drop-drop, drop-at, take-at, getD-drop}
 use Rattle.book.specs.Meaning.{Pair, Shaped}
-use Rattle.tape.specs.Layout.{two, record-of, image, word, place, pair-at, firsts, pairs-of}
+use Rattle.tape.specs.Layout.{record-of, image, word, place, pair-at, firsts}
 use Rattle.tape.specs.Laws.{Read-back, One-image}
 
 pair-read : (m rest : List ℕ) (at : ℕ) (p : Pair) → drop at m ≡ record-of p ++ rest → Shaped p → pair-at m at ≡ p

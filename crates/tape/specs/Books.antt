@@ -1,10 +1,8 @@
 -- What a tape means as a book.
-use Prim.Native.Nat.{ℕ, _+_, _*_, _^_, _<_, _≤_}
 use native.Mathlib.Omega.{arith}
-use lib.ListN.{length}
 use Rattle.book.specs.Meaning.{Meaning}
 use Rattle.tape.specs.declared.tape_book.TapeBook.{TapeBook}
-use Rattle.tape.specs.Layout.{word, pairs-of}
+use Rattle.tape.specs.Layout.{pairs-of}
 use Rattle.tape.specs.Facts.{room-fits, size-is, pairs-shaped}
 
 -- the pairs that stand on it, and its capacity

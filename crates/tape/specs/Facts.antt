@@ -1,7 +1,7 @@
 -- That the pairs on a tape keep to the laws of a book.
 use mathlib.Core.List.{List, []}
 use mathlib.Core.Path.{_≡_, sym, subst}
-use Prim.Native.Nat.{ℕ, min, _+_, _-_, _*_, _/_, _<_, _≤_}
+use Prim.Native.Nat.{ℕ, _+_, _-_, _/_, _<_, _≤_}
 use native.Mathlib.Omega.{arith}
 use lib.ListN.{length, drop}
 use Rattle.std.specs.shelf.Lists.{All}
@@ -9,8 +9,8 @@ use Rattle.std.proofs.shelf.Lists.{length-take-le, length-drop}
 use Rattle.std.proofs.shelf.Counted.{length-map-counting, getD-map-counting}
 use Rattle.std.proofs.shelf.Elements.{all-from-getD}
 use Rattle.std.proofs.shelf.Bits.{le-div, div-add-mod'}
-use Rattle.book.specs.Meaning.{Pair, Shaped}
-use Rattle.tape.specs.Layout.{RoomIn, Fitting, word, place, pair-at, firsts, pairs-of}
+use Rattle.book.specs.Meaning.{Shaped}
+use Rattle.tape.specs.Layout.{RoomIn, Fitting, word, place, pair-at, pairs-of}
 
 pub room-fits : (m : List ℕ) (cap : ℕ) → RoomIn (length m) cap → Fitting m cap
 room-fits m cap (whole, is) =

@@ -1,5 +1,4 @@
 use mathlib.Core.Path.{refl, ap, subst, _∙_}
-use borrow.Author.Needs.{needs}
 use lib.ListN.{length}
 use Rattle.std.specs.shelf.Lists.{Has}
 use Rattle.tape.specs.Layout.{pairs-of, Refuses, marked-pairs, marked-image}
