@@ -1,0 +1,4 @@
+pub mod Steps
+pub mod Blocks
+pub mod Tail
+pub mod Roots
