@@ -105,8 +105,17 @@ fn all_rounds(words: &[u32; 64], start: Working) -> Working
     ensures { λ r. ⌜ r ≡ rounds (now (words .entry)) 64 start ⌝ }
 {
     let mut v = start;
-    for t in 0..64usize {
+    // eight rounds a turn, after which each variable is back in its own place
+    for i in 0..8usize {
+        let t = 8 * i;
         v = round(v, ROUND[t], words[t]);
+        v = round(v, ROUND[t + 1], words[t + 1]);
+        v = round(v, ROUND[t + 2], words[t + 2]);
+        v = round(v, ROUND[t + 3], words[t + 3]);
+        v = round(v, ROUND[t + 4], words[t + 4]);
+        v = round(v, ROUND[t + 5], words[t + 5]);
+        v = round(v, ROUND[t + 6], words[t + 6]);
+        v = round(v, ROUND[t + 7], words[t + 7]);
     }
     v
 }
