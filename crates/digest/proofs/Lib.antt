@@ -1,3 +1,4 @@
+pub mod Logic
 pub mod Steps
 pub mod Blocks
 pub mod Tail

@@ -40,7 +40,7 @@ chained-more s n bytes = rw add-one
 
 -- a round on the working variables after the first n rounds gives those after one more
 pub round-at : {v r : Working} (w : List ℕ) (start : Working) (n : ℕ) → v ≡ rounds w n start
-  → r ≡ stepped v (getD round-constants n 0) (getD w n 0) → (m : ℕ) → m ≡ n + 1 → r ≡ rounds w m start
+    → r ≡ stepped v (getD round-constants n 0) (getD w n 0) → (m : ℕ) → m ≡ n + 1 → r ≡ rounds w m start
 round-at w start n was is m more =
     is ∙ ap (λ (u : Working). stepped u (getD round-constants n 0) (getD w n 0)) was
     ∙ sym (rounds-more w n start) ∙ ap (λ (k : ℕ). rounds w k start) (sym more)

@@ -19,16 +19,18 @@ pub struct Working {
     pub h: u32,
 }
 
+// Where x has a bit, that of y, else that of z: three operations for the standard's four.
 fn ch(x: u32, y: u32, z: u32) -> u32
     ensures { λ r. ⌜ r ≡ choice x y z ⌝ }
 {
-    (x & y) ^ (!x & z)
+    ((y ^ z) & x) ^ z
 }
 
+// The bit that most have. Written so, x ^ y of one round is y ^ z of the next, and is computed once.
 fn maj(x: u32, y: u32, z: u32) -> u32
     ensures { λ r. ⌜ r ≡ majority x y z ⌝ }
 {
-    (x & y) ^ (x & z) ^ (y & z)
+    ((x ^ y) & (y ^ z)) ^ y
 }
 
 fn big_sigma0(x: u32) -> u32
