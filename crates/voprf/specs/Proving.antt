@@ -19,7 +19,7 @@ use Rattle.group.specs.Elements.{sum, base-multiple, multiple}
 use Rattle.group.specs.Weighted.{weighted-sum}
 use Rattle.group.specs.declared.SumFault.{SumFault}
 use Rattle.group.specs.declared.SumFault.the-variants.{Wire, Item}
-use Rattle.voprf.specs.Hashing.{two-bytes, context-string, framed-code, framed, hash-to-scalar}
+use Rattle.hashing.specs.Hashing.{two-bytes, context-string, framed-code, framed, hash-to-scalar}
 use Rattle.voprf.specs.Blinding.{public-key}
 
 -- the fault of a sum, kept whole inside the batch's

@@ -1,2 +1,2 @@
-// The verifiable blind steps, written once for every kind of group.
-pub mod hashing;
+// The blind steps and the batch proof of the tokens, written once for every kind of group.
+pub mod proving;
