@@ -27,7 +27,7 @@ pub fn put(bytes: &mut [u8], at: usize, part: &[u8]) -> usize
 }
 
 // The digest of bytes that are known to be few enough.
-fn hash(bytes: &[u8]) -> [u8; 32]
+pub fn hash(bytes: &[u8]) -> [u8; 32]
     requires { ⌜ length (now bytes) ≤ 4096 ⌝ }
     ensures { λ r. ⌜ r ≡ sha256 (now (bytes .entry)) ⌝ }
 {
@@ -38,7 +38,7 @@ fn hash(bytes: &[u8]) -> [u8; 32]
 }
 
 // The context string: which protocol, which group, which digest.
-fn put_context<G: Group>(bytes: &mut [u8], at: usize) -> usize
+pub fn put_context<G: Group>(bytes: &mut [u8], at: usize) -> usize
     requires { ⌜ at + 31 ≤ length (now bytes) ⌝ }
     ensures appended { λ r. ⌜ Appended (now (bytes .entry)) (now (bytes .exit)) at r (context-string model) ⌝ }
     ensures bound { λ r. ⌜ at ≤ r ⌝ ∗ ⌜ r ≤ at + 31 ⌝ }
@@ -50,7 +50,7 @@ fn put_context<G: Group>(bytes: &mut [u8], at: usize) -> usize
 }
 
 // A code with its length in front.
-fn put_framed<G: Group>(bytes: &mut [u8], at: usize, code: &[u8]) -> usize
+pub fn put_framed<G: Group>(bytes: &mut [u8], at: usize, code: &[u8]) -> usize
     requires { ⌜ at + 2 + length (now code) ≤ length (now bytes) ⌝ }
     ensures appended { λ r. ⌜ Appended (now (bytes .entry)) (now (bytes .exit)) at r (framed-code model (now (code .entry))) ⌝ }
     ensures bound { λ r. ⌜ r ≡ at + 2 + length (now (code .entry)) ⌝ }
