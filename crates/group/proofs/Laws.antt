@@ -1,16 +1,15 @@
 -- The theorems on elements and scalars, from the laws of a model alone.
 use mathlib.Core.Path.{_≡_, refl, sym, ap, _∙_, subst}
-use mathlib.Core.List.{List, [], _∷_}
-use Prim.Native.Nat.{ℕ, zero, suc, _+_, _-_, _*_, _%_, _<_, _≤_}
-use native.Mathlib.Nat.{mod-lt, mod-eq-of-lt, mod-self, mod-add-mod, add-mod-mod, mul-assoc, mul-comm, mul-one, mul-add, add-mul, add-assoc, add-comm, zero-mul, zero-mod}
+use Prim.Native.Nat.{ℕ, _+_, _-_, _*_, _%_, _<_}
+use native.Mathlib.Nat.{mod-lt, mod-eq-of-lt, mod-self, mul-assoc, mul-comm, mul-one, mul-add, add-mul, add-assoc, add-comm, zero-mul, zero-mod}
 use native.Mathlib.Omega.{arith}
-use Rattle.std.specs.declared.option.Option.the-variants.{Some, None}
+use Rattle.std.specs.declared.option.Option.the-variants.{Some}
 use Rattle.numbers.proofs.Mod.{mod-mul-left, mod-mul-right, undone}
-use Rattle.scalar.specs.Scalars.{Scalars, added, multiplied}
+use Rattle.scalar.specs.Scalars.{added, multiplied}
 use Rattle.group.specs.Model.{Model}
 use Rattle.group.specs.Elements.{null, generator, sum, opposite, base-multiple, multiple}
 use Rattle.group.specs.Theorems.{Lawful, Unblinds, One-scalar}
-use Rattle.group.proofs.Logs.{order-positive, by-log, at-own-log, same-remainder, log-null, log-generator, log-sum, log-opposite, log-multiple, sum-at, sum-at-right}
+use Rattle.group.proofs.Logs.{order-positive, at-own-log, same-remainder, log-null, log-generator, log-multiple, sum-at}
 use Rattle.group.proofs.Codes.{one-code}
 
 module _ {E S K : Type 0} (m : Model E S K) where

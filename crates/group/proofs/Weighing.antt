@@ -1,13 +1,12 @@
 -- Weighted sums: what a sum that has come so far will answer over the rest, and what it is by its elements.
-use mathlib.Core.Path.{_≡_, refl, sym, ap, _∙_, subst}
-use mathlib.Core.Bool.{Bool, true, false, cond}
-use mathlib.Core.List.{List, [], _∷_, _++_, append-assoc, append-nil}
+use mathlib.Core.Path.{_≡_, refl, sym, ap, _∙_}
+use mathlib.Core.Bool.{cond}
+use mathlib.Core.List.{List, [], _∷_, _++_, append-assoc}
 use Prim.Native.Nat.{ℕ, zero, suc, _+_, _-_, _*_, _/_, _%_, _<_, _≤_}
 use native.Mathlib.Nat.{add-zero, add-suc, suc-add, mul-comm, suc-mul, zero-mul, mod-add-div, le-of-mul-le-mul-right, mul-le-mul-right, add-sub-cancel-left}
 use native.Mathlib.Numerals.{one-add, add-one}
 use Rattle.std.proofs.shelf.Bits.{div-mul-add, mod-mul-add}
 use native.Mathlib.Omega.{arith}
-use lib.Dec.{eqb}
 use lib.ListN.{length, take, drop, getD, length-append}
 use lib.Seq.{take-at, drop-at, drop-cons, drop-drop}
 use borrow.Author.Tests.{eq-eqb}
@@ -23,7 +22,7 @@ use Rattle.faults.specs.declared.GroupFault.the-variants.{NoElement}
 use Rattle.group.specs.Model.{Model}
 use Rattle.group.specs.Elements.{null, sum, multiple}
 use Rattle.group.specs.Weighted.{put, led, elements, weighed, weighted, summed, weighted-sum}
-use Rattle.group.specs.Theorems.{Lawful, row, Weighs}
+use Rattle.group.specs.Theorems.{row, Weighs}
 use Rattle.group.specs.declared.SumFault.{SumFault}
 use Rattle.group.specs.declared.SumFault.the-variants.{Wire, Item}
 use Rattle.group.proofs.Logs.{sum-at}
