@@ -127,10 +127,10 @@ impl<const Q: u16> Order<Q> {
     pub fn nonzero(self, s: Scalar<Q>) -> Result<NonZero<Q>, GroupFault>
         ensures { λ r. ⌜ r ≡ okOr (modulo (self .entry) .nonzero (s .entry)) GroupFault.NoScalar ⌝ }
     {
-        if s.value == 0 {
-            Err(GroupFault::NoScalar)
-        } else {
+        if s.value > 0 {
             Ok(NonZero { scalar: s })
+        } else {
+            Err(GroupFault::NoScalar)
         }
     }
 
