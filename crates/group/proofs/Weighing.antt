@@ -139,12 +139,12 @@ module _ {E S K : Type 0} (m : Model E S K) where
         sym (ap (λ ss. onward total (suc i) (drop at codes) ss) (here .1) ∙
         onward-none total (suc i) (drop at codes) (here .0) (drop (suc i) scalars) (sym (ap (m .element) part) ∙ none .0))
 
-  row-length : (ps : List E) → length (row m ps) ≡ length ps * m .element-width
+  pub row-length : (ps : List E) → length (row m ps) ≡ length ps * m .element-width
   row-length [] = sym (zero-mul (m .element-width))
   row-length (p ∷ ps) =
       length-append (m .code p) (row m ps) ∙ omega (arith, m .coded p, row-length ps, suc-mul (length ps) (m .element-width))
 
-  elements-row : (i : ℕ) (ps : List E) → elements m i (length ps) (row m ps) ≡ Ok ps
+  pub elements-row : (i : ℕ) (ps : List E) → elements m i (length ps) (row m ps) ≡ Ok ps
   elements-row i [] = refl
   elements-row i (p ∷ ps) =
       let w = m .element-width in
