@@ -1,0 +1,3 @@
+pub mod Ruled
+pub mod Reading
+pub mod Placing

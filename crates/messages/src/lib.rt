@@ -63,7 +63,7 @@ fn number(high: u8, low: u8) -> u16
 }
 
 // Takes type, epoch and n off the front of a message, and hands on the rest.
-pub fn header(message: &[u8]) -> Result<(Header, &[u8]), WireFault>
+pub fn take_header(message: &[u8]) -> Result<(Header, &[u8]), WireFault>
     ensures { λ r. ⌜ header-seen r ≡ header-of (now (message .entry)) ⌝ }
 {
     let [k1, k2, e1, e2, n, rest @ ..] = message else {
@@ -81,7 +81,7 @@ pub fn header(message: &[u8]) -> Result<(Header, &[u8]), WireFault>
 fn batch_front<G: Group>(message: &[u8]) -> Result<(Header, &[u8]), WireFault>
     ensures { λ r. ⌜ header-seen r ≡ front-of model (now (message .entry)) ⌝ }
 {
-    let (front, rest) = header(message)?;
+    let (front, rest) = take_header(message)?;
     if front.kind != G::kind() {
         return Err(WireFault::WrongType);
     }
