@@ -1,3 +1,4 @@
 pub mod Ruled
 pub mod Reading
 pub mod Placing
+pub mod Writing

@@ -1,22 +1,23 @@
 -- The readers: what each part of a message makes them answer.
 use mathlib.Core.Path.{_≡_, refl, sym, ap, _∙_, subst}
 use mathlib.Core.Bool.{Bool, true, false, cond, not, _||_}
+use mathlib.Core.Logic.{_⊎_, ⊎-elim}
 use mathlib.Core.List.{List, [], _∷_, _++_}
 use Prim.Native.Nat.{ℕ, _+_, _-_, _*_, _<_, _≤_}
 use native.Mathlib.Omega.{arith}
 use lib.Dec.{eqb, ltb}
 use lib.ListN.{length, take, drop, getD, length-drop}
 use lib.Seq.{drop-drop}
-use Rattle.std.proofs.shelf.Tests.{ltb-false, ltb-true, eqb-true, lt-ltb, le-ltb, eq-eqb, ne-eqb, not-false, not-from-true, not-from-false, or-left, or-right, or-from, or-parts, eqb-false}
+use Rattle.std.proofs.shelf.Tests.{ltb-false, lt-ltb, le-ltb, eq-eqb, ne-eqb, or-left, or-right, or-from, or-parts, eqb-false}
 use Rattle.std.specs.declared.result.Result.{Result}
 use Rattle.std.specs.declared.result.Result.the-variants.{Ok, Err}
 use Rattle.faults.specs.declared.WireFault.{WireFault}
 use Rattle.faults.specs.declared.WireFault.the-variants.{WrongLength, WrongType, WrongCount, ShortOutlet}
 use Rattle.group.specs.Model.{Model}
 use Rattle.messages.specs.Answers.{ruled}
-use Rattle.messages.specs.Messages.{Batch, Answers, kind-in, epoch-in, count-in, header-in, header-of, no-count, front-checks, front-of, place, request-length, reply-length, read-request, read-reply, split-reply}
+use Rattle.messages.specs.Messages.{Batch, Answers, kind-in, epoch-in, count-in, header-in, header-of, no-count, front-checks, front-of, place, request-length, reply-length, read-request, read-reply, split-reply, token-in, read-token}
 use Rattle.messages.specs.declared.Header.{Header}
-use Rattle.messages.proofs.Ruled.{Passes, after, passed, stopped, passes, ruled-after, same-answer}
+use Rattle.messages.proofs.Ruled.{Passes, after, passed, stopped, passes, ruled-after, same-answer, equal-passes, unequal-stops, passed-equal}
 
 -- the length of a header decides what it is read as
 pub header-short : (bytes : List ℕ) → length bytes < 5 → header-of bytes ≡ Err WrongLength
@@ -38,6 +39,9 @@ header-read bytes h rest e =
 
 pub counted : (n : ℕ) → 1 ≤ n → n ≤ 16 → no-count n ≡ false
 counted n l h = or-from (eqb n 0) (ltb 16 n) (ne-eqb n 0 (omega arith)) (le-ltb 16 n h)
+
+pub uncounted : (n : ℕ) → (n ≡ 0) ⊎ ((n ≡ 0 → ⊥) × (16 < n)) → no-count n ≡ true
+uncounted n h = ⊎-elim (λ z. or-left (eqb n 0) (ltb 16 n) (eq-eqb n 0 z)) (λ z. or-right (eqb n 0) (ltb 16 n) (lt-ltb 16 n (z .1))) h
 
 pub counts : (n : ℕ) → no-count n ≡ false → (1 ≤ n) × (n ≤ 16)
 counts n e =
@@ -75,10 +79,10 @@ module _ {E S K : Type 0} (m : Model E S K) (bytes : List ℕ) where
     pub front-other : (h .kind ≡ m .kind → ⊥) → front-of m bytes ≡ Err WrongType
     front-other ne =
         front-next ∙ stopped type-check (count-check ∷ []) (Ok (header-in bytes, drop 5 bytes))
-        (not-from-false (eqb (kind-in bytes) (m .kind)) (ne-eqb (kind-in bytes) (m .kind) (λ k. ne (kind-is ∙ k))))
+        (unequal-stops (kind-in bytes) (m .kind) (λ k. ne (kind-is ∙ k)))
 
     same-kind : h .kind ≡ m .kind → type-check .0 ≡ false
-    same-kind k = not-from-true (eqb (kind-in bytes) (m .kind)) (eq-eqb (kind-in bytes) (m .kind) (sym kind-is ∙ k))
+    same-kind k = equal-passes (kind-in bytes) (m .kind) (sym kind-is ∙ k)
 
     pub front-uncounted : h .kind ≡ m .kind → no-count (h .count) ≡ true → front-of m bytes ≡ Err WrongCount
     front-uncounted k n =
@@ -98,13 +102,14 @@ module _ {E S K : Type 0} (m : Model E S K) (bytes : List ℕ) where
   front-read h rest e =
       let got = passes (front-checks m bytes) (Ok (header-in bytes, drop 5 bytes)) (h, rest) e in
       let same = same-answer (header-in bytes, drop 5 bytes) (h, rest) (got .1) in
-      let count = counts (count-in bytes) (got .0 .1 .1 .0) in
-      (ltb-false (length bytes) 5 (got .0 .0),
+      let count = counts (count-in bytes) (got .0 .1 .1 .0) in (
+        ltb-false (length bytes) 5 (got .0 .0),
         sym (ap (λ x. x .0) same),
         sym (ap (λ x. x .1) same),
-        eqb-true (kind-in bytes) (m .kind) (not-false (eqb (kind-in bytes) (m .kind)) (got .0 .1 .0)),
+        passed-equal (kind-in bytes) (m .kind) (got .0 .1 .0),
         count .0,
-        count .1)
+        count .1,
+      )
 
   -- a request is read by its front, and then by its length
   abbrev request-length-check : Bool × WireFault
@@ -137,8 +142,7 @@ module _ {E S K : Type 0} (m : Model E S K) (bytes : List ℕ) where
     unfolding request-length place
     request-wrong ne =
         request-next ∙ stopped request-length-check [] (Ok request-in)
-        (not-from-false (eqb (length bytes) (request-length m (count-in bytes))) (ne-eqb (length bytes) (request-length m (count-in bytes))
-        (λ l. ne (omega (arith, l, rest-long, ap (λ (n : ℕ). n * m .element-width) count-of)))))
+        (unequal-stops (length bytes) (request-length m (count-in bytes)) (λ l. ne (omega (arith, l, rest-long, ap (λ (n : ℕ). n * m .element-width) count-of))))
 
     pub request-whole : length rest ≡ h .count * m .element-width → read-request m bytes ≡ Ok record { epoch = h .epoch; count = h .count; items = rest }
     unfolding request-length place
@@ -147,7 +151,7 @@ module _ {E S K : Type 0} (m : Model E S K) (bytes : List ℕ) where
         let long : length bytes ≡ request-length m (count-in bytes) = omega (arith, l, rest-long, ap (λ (n : ℕ). n * m .element-width) count-of) in
         let same : request-in ≡ record { epoch = h .epoch; count = h .count; items = rest } = cc (ap (λ x. x .epoch) (read .1), count-of, read .2) in
         request-next ∙ passed (request-length-check ∷ []) (Ok request-in)
-        (not-from-true (eqb (length bytes) (request-length m (count-in bytes))) (eq-eqb (length bytes) (request-length m (count-in bytes)) long), tt) ∙
+        (equal-passes (length bytes) (request-length m (count-in bytes)) long, tt) ∙
         ap (λ b. Ok b) same
 
   -- a reply is read by its front, and then by its split
@@ -161,7 +165,7 @@ module _ {E S K : Type 0} (m : Model E S K) (bytes : List ℕ) where
         count = count-in bytes;
         items = take (count-in bytes * m .element-width) (drop 5 bytes);
         challenge = take (m .scalars .width) (drop (place m (count-in bytes)) bytes);
-        response = drop (place m (count-in bytes) + m .scalars .width) bytes
+        response = drop (place m (count-in bytes) + m .scalars .width) bytes;
       }
 
   reply-by-front : read-reply m bytes ≡ after (front-of m bytes) (ruled (reply-length-check ∷ []) (Ok reply-in))
@@ -177,22 +181,23 @@ module _ {E S K : Type 0} (m : Model E S K) (n : ℕ) (rest : List ℕ) where
   split-check = (not (eqb (5 + length rest) (reply-length m n)), WrongLength)
 
   abbrev pub split-in : List ℕ × List ℕ × List ℕ
-  split-in =
-      (take (n * m .element-width) rest,
-        take (m .scalars .width) (drop (n * m .element-width) rest),
-        drop (m .scalars .width) (drop (n * m .element-width) rest))
+  split-in = (
+    take (n * m .element-width) rest,
+    take (m .scalars .width) (drop (n * m .element-width) rest),
+    drop (m .scalars .width) (drop (n * m .element-width) rest),
+  )
 
   pub split-wrong : (length rest ≡ n * m .element-width + 2 * m .scalars .width → ⊥) → split-reply m n rest ≡ Err WrongLength
   unfolding split-reply reply-length place
   split-wrong ne =
       stopped split-check [] (Ok split-in)
-      (not-from-false (eqb (5 + length rest) (reply-length m n)) (ne-eqb (5 + length rest) (reply-length m n) (λ l. ne (omega arith))))
+      (unequal-stops (5 + length rest) (reply-length m n) (λ l. ne (omega arith)))
 
   pub split-whole : length rest ≡ n * m .element-width + 2 * m .scalars .width → split-reply m n rest ≡ Ok split-in
   unfolding split-reply reply-length place
   split-whole l =
       passed (split-check ∷ []) (Ok split-in)
-      (not-from-true (eqb (5 + length rest) (reply-length m n)) (eq-eqb (5 + length rest) (reply-length m n) (omega arith)), tt)
+      (equal-passes (5 + length rest) (reply-length m n) (omega arith), tt)
 
 module _ {E S K : Type 0} (m : Model E S K) (bytes : List ℕ) (h : Header) (rest : List ℕ) (e : front-of m bytes ≡ Ok (h, rest)) where
   reply-by-split : read-reply m bytes ≡ after (split-reply m (h .count) rest) (Ok (reply-in m bytes))
@@ -229,3 +234,12 @@ module _ {E S K : Type 0} (m : Model E S K) (bytes : List ℕ) (h : Header) (res
       let whole : reply-in m bytes ≡ record { epoch = h .epoch; count = h .count; items = xs; challenge = cs; response = ss } =
       cc (ap (λ x. x .epoch) (read .1), count, items, first, second) in
       reply-by-split ∙ ap (λ r. after r (Ok (reply-in m bytes))) w ∙ ap (λ a. Ok a) whole
+
+-- tokens
+pub token-wrong : (bytes : List ℕ) → (length bytes ≡ 132 → ⊥) → read-token bytes ≡ Err WrongLength
+unfolding read-token
+token-wrong bytes ne = stopped (not (eqb (length bytes) 132), WrongLength) [] (Ok (token-in bytes)) (unequal-stops (length bytes) 132 ne)
+
+pub token-whole : (bytes : List ℕ) → length bytes ≡ 132 → read-token bytes ≡ Ok (token-in bytes)
+unfolding read-token
+token-whole bytes l = passed ((not (eqb (length bytes) 132), WrongLength) ∷ []) (Ok (token-in bytes)) (equal-passes (length bytes) 132 l, tt)

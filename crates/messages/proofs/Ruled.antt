@@ -1,9 +1,11 @@
 -- Checks in their order: what is known where all of them pass, and where one of them is the first to fail.
 use mathlib.Core.Path.{_≡_, refl, sym, ap, _∙_, subst}
-use mathlib.Core.Bool.{Bool, true, false, cond}
-use mathlib.Core.List.{List, [], _∷_}
+use mathlib.Core.Bool.{Bool, true, false, cond, not}
+use mathlib.Core.List.{List, [], _∷_, _++_}
 use Prim.Native.Nat.{ℕ}
 use native.Mathlib.Omega.{arith}
+use lib.Dec.{eqb}
+use Rattle.std.proofs.shelf.Tests.{eq-eqb, ne-eqb, eqb-true, not-false, not-from-true, not-from-false}
 use Rattle.std.specs.declared.result.Result.{Result}
 use Rattle.std.specs.declared.result.Result.the-variants.{Ok, Err}
 use Rattle.messages.specs.Answers.{ruled}
@@ -24,6 +26,16 @@ never e = let z : _≡_ {A = ℕ} 0 1 = cc in absurd (omega arith)
 pub same-answer : {T E : Type 0} (x y : T) → _≡_ {A = Result T E} (Ok x) (Ok y) → x ≡ y
 same-answer x y e = cc
 
+-- a check that two numbers are equal
+pub equal-passes : (a b : ℕ) → a ≡ b → not (eqb a b) ≡ false
+equal-passes a b e = not-from-true (eqb a b) (eq-eqb a b e)
+
+pub unequal-stops : (a b : ℕ) → (a ≡ b → ⊥) → not (eqb a b) ≡ true
+unequal-stops a b h = not-from-false (eqb a b) (ne-eqb a b h)
+
+pub passed-equal : (a b : ℕ) → not (eqb a b) ≡ false → a ≡ b
+passed-equal a b e = eqb-true a b (not-false (eqb a b) e)
+
 module _ {T E : Type 0} where
   pub passed : (xs : List (Bool × E)) (next : Result T E) → Passes xs → ruled xs next ≡ next
   passed [] next p = refl
@@ -31,6 +43,12 @@ module _ {T E : Type 0} where
 
   pub stopped : (x : Bool × E) (xs : List (Bool × E)) (next : Result T E) → x .0 ≡ true → ruled (x ∷ xs) next ≡ Err (x .1)
   stopped x xs next e = ap (λ b. cond b (Err (x .1)) (ruled xs next)) e
+
+  -- the first check that fails, after some that pass
+  pub stops : (xs : List (Bool × E)) (x : Bool × E) (ys : List (Bool × E)) (next : Result T E) → Passes xs → x .0 ≡ true →
+      ruled (xs ++ (x ∷ ys)) next ≡ Err (x .1)
+  stops [] x ys next p e = stopped x ys next e
+  stops (c ∷ xs) x ys next p e = ap (λ b. cond b (Err (c .1)) (ruled (xs ++ (x ∷ ys)) next)) (p .0) ∙ stops xs x ys next (p .1) e
 
   one-passes : (b : Bool) (f : E) (next : Result T E) (v : T) → cond b (Err f) next ≡ Ok v → (b ≡ false) × (next ≡ Ok v)
   one-passes true f next v e = never (sym e)

@@ -1,8 +1,9 @@
 -- The one answer of a call, and what it leaves in an outlet.
+use mathlib.Core.Path.{_≡_}
 use mathlib.Core.Bool.{Bool, cond}
 use mathlib.Core.List.{List, [], _∷_, _++_}
-use Prim.Native.Nat.{ℕ}
-use lib.ListN.{length, drop}
+use Prim.Native.Nat.{ℕ, _+_}
+use lib.ListN.{length, take, drop}
 use Rattle.std.specs.declared.result.Result.{Result}
 use Rattle.std.specs.declared.result.Result.the-variants.{Ok, Err}
 
@@ -14,6 +15,11 @@ ruled (x ∷ xs) next = cond (x .0) (Err (x .1)) (ruled xs next)
 -- the bytes at the front, and the rest as it was
 unfoldable pub over : List ℕ → List ℕ → List ℕ
 over bytes old = bytes ++ drop (length bytes) old
+
+-- what a write of a part at a place leaves, and where it ends
+pub record Put (before after : List ℕ) (at end : ℕ) (part : List ℕ) : Type 0 where
+  pub ends : end ≡ at + length part
+  pub bytes : after ≡ take at before ++ (part ++ drop (at + length part) before)
 
 -- an outlet: the bytes at its front where the call answers, all as it was where it refuses
 abbrev pub laid : {T E : Type 0} → Result T E → List ℕ → List ℕ → List ℕ

@@ -88,17 +88,19 @@ token-input-of kind epoch nonce context key-id =
 unfoldable pub writes-token : ℕ → Result ℕ WireFault
 writes-token room = ruled ((ltb room 132, ShortOutlet) ∷ []) (Ok 132)
 
--- a token has 132 bytes
+-- what stands in the bytes of a token
+abbrev pub token-in : List ℕ → Parts
+token-in bytes = record {
+    kind = kind-in bytes;
+    epoch = epoch-in bytes;
+    nonce = take 32 (drop 4 bytes);
+    context = take 32 (drop 36 bytes);
+    key-id = take 32 (drop 68 bytes);
+    authenticator = take 32 (drop 100 bytes) }
+
+-- what a reader answers to a token
 unfoldable pub read-token : List ℕ → Result Parts WireFault
-read-token bytes =
-    ruled ((not (eqb (length bytes) 132), WrongLength) ∷ [])
-    (Ok record {
-      kind = kind-in bytes;
-      epoch = epoch-in bytes;
-      nonce = take 32 (drop 4 bytes);
-      context = take 32 (drop 36 bytes);
-      key-id = take 32 (drop 68 bytes);
-      authenticator = drop 100 bytes })
+read-token bytes = ruled ((not (eqb (length bytes) 132), WrongLength) ∷ []) (Ok (token-in bytes))
 
 module _ {E S K : Type 0} (m : Model E S K) where
   -- a request: type, epoch, n and the codes
@@ -119,11 +121,12 @@ module _ {E S K : Type 0} (m : Model E S K) where
   -- the reply of an epoch with elements and a proof
   abbrev pub answers-of : ℕ → List E → S → S → Answers
   answers-of epoch es c s = record {
-      epoch = epoch;
-      count = length es;
-      items = row m es;
-      challenge = scalar-code (m .scalars) c;
-      response = scalar-code (m .scalars) s }
+    epoch = epoch;
+    count = length es;
+    items = row m es;
+    challenge = scalar-code (m .scalars) c;
+    response = scalar-code (m .scalars) s;
+  }
 
   unfoldable pub written-reply : ℕ → List E → S → S → List ℕ
   written-reply epoch es c s = reply-bytes (answers-of epoch es c s)
@@ -164,9 +167,11 @@ module _ {E S K : Type 0} (m : Model E S K) where
   unfoldable pub split-reply : ℕ → List ℕ → Result (List ℕ × List ℕ × List ℕ) WireFault
   split-reply n rest =
       ruled ((not (eqb (5 + length rest) (reply-length n)), WrongLength) ∷ [])
-      (Ok (take (n * m .element-width) rest,
+      (Ok (
+        take (n * m .element-width) rest,
         take (m .scalars .width) (drop (n * m .element-width) rest),
-        drop (m .scalars .width) (drop (n * m .element-width) rest)))
+        drop (m .scalars .width) (drop (n * m .element-width) rest),
+      ))
 
   -- what a reader answers to a reply
   unfoldable pub read-reply : List ℕ → Result Answers WireFault
@@ -178,7 +183,8 @@ module _ {E S K : Type 0} (m : Model E S K) where
         count = count-in bytes;
         items = take (count-in bytes * m .element-width) (drop 5 bytes);
         challenge = take (m .scalars .width) (drop (place (count-in bytes)) bytes);
-        response = drop (place (count-in bytes) + m .scalars .width) bytes }))
+        response = drop (place (count-in bytes) + m .scalars .width) bytes;
+      }))
 
   -- item i of codes in a row, counted from 0, if there are so many
   unfoldable pub item-at : List ℕ → ℕ → Option (List ℕ)
@@ -189,16 +195,16 @@ module _ {E S K : Type 0} (m : Model E S K) where
   writes-request b room =
       ruled
       ((no-count (b .count), WrongCount) ∷
-       (not (eqb (length (b .items)) (b .count * m .element-width)), WrongLength) ∷
-       (ltb room (request-length (b .count)), ShortOutlet) ∷ [])
+      (not (eqb (length (b .items)) (b .count * m .element-width)), WrongLength) ∷
+      (ltb room (request-length (b .count)), ShortOutlet) ∷ [])
       (Ok (request-length (b .count)))
 
   unfoldable pub writes-reply : Answers → ℕ → Result ℕ WireFault
   writes-reply a room =
       ruled
       ((no-count (a .count), WrongCount) ∷
-       (not (eqb (length (a .items)) (a .count * m .element-width)), WrongLength) ∷
-       (not (eqb (length (a .challenge)) (m .scalars .width)), WrongLength) ∷
-       (not (eqb (length (a .response)) (m .scalars .width)), WrongLength) ∷
-       (ltb room (reply-length (a .count)), ShortOutlet) ∷ [])
+      (not (eqb (length (a .items)) (a .count * m .element-width)), WrongLength) ∷
+      (not (eqb (length (a .challenge)) (m .scalars .width)), WrongLength) ∷
+      (not (eqb (length (a .response)) (m .scalars .width)), WrongLength) ∷
+      (ltb room (reply-length (a .count)), ShortOutlet) ∷ [])
       (Ok (reply-length (a .count)))

@@ -31,6 +31,13 @@ abbrev pub reply-seen : Result Reply WireFault → Result Answers WireFault
 reply-seen (Ok q) = Ok (answers q)
 reply-seen (Err f) = Err f
 
+abbrev pub parts : Token → Parts
+parts t = record { kind = t .kind; epoch = t .epoch; nonce = t .nonce; context = t .context .now; key-id = t .«key_id» .now; authenticator = t .authenticator .now }
+
+abbrev pub token-seen : Result Token WireFault → Result Parts WireFault
+token-seen (Ok t) = Ok (parts t)
+token-seen (Err f) = Err f
+
 abbrev pub split-seen : Result (RefT (List ℕ) × RefT (List ℕ) × RefT (List ℕ)) WireFault → Result (List ℕ × List ℕ × List ℕ) WireFault
 split-seen (Ok x) = Ok (x .0 .now, x .1 .now, x .2 .now)
 split-seen (Err f) = Err f

@@ -9,11 +9,12 @@
 // Codes stay bytes here; whoever computes with an item decodes it. `docs/MESSAGES.md` has every byte.
 ghost use mathlib.Core.Path.{_≡_};
 ghost use mathlib.Core.List.{List};
-ghost use Prim.Native.Nat.{ℕ, _+_, _*_};
+ghost use Prim.Native.Nat.{ℕ, _+_, _*_, _≤_};
 ghost use lib.ListN.{length, take, drop};
-ghost use Rattle.messages.specs.Answers.{laid};
-ghost use Rattle.messages.specs.Messages.{header-of, front-of, read-request as request-read, read-reply as reply-read, split-reply as reply-split, request-length, reply-length, item-at};
-ghost use Rattle.messages.specs.Views.{header-seen, request-seen, reply-seen, split-seen, item-seen};
+ghost use Rattle.std.specs.Vec.{made};
+ghost use Rattle.messages.specs.Answers.{Put, laid};
+ghost use Rattle.messages.specs.Messages.{header-of, front-of, read-request as request-read, read-reply as reply-read, split-reply as reply-split, request-length, reply-length, item-at, head-bytes, request-bytes, reply-bytes, token-input-of, token-bytes, read-token as token-read, writes-request, writes-reply, writes-token};
+ghost use Rattle.messages.specs.Views.{header-seen, request-seen, reply-seen, split-seen, item-seen, token-seen, batch, answers};
 use faults::WireFault;
 use group::Group;
 
@@ -158,4 +159,136 @@ pub fn item<G: Group>(items: &[u8], i: usize) -> Option<&[u8]>
     }
     let at = i * width;
     Some(&items[at..at + width])
+}
+
+// Copies the part to the place `at`, and answers where it ends.
+fn put(out: &mut [u8], at: usize, part: &[u8]) -> usize
+    requires { ⌜ at + length (now part) ≤ length (now out) ⌝ }
+    ensures { λ r. ⌜ Put (now (out .entry)) (now (out .exit)) at r (now (part .entry)) ⌝ }
+{
+    let end = at + part.len();
+    out[at..end].copy_from_slice(part);
+    end
+}
+
+// Type, epoch and n in their bytes.
+fn head(kind: u16, epoch: u16, count: u8) -> [u8; 5]
+    ensures { λ r. ⌜ r ≡ head-bytes kind epoch count ⌝ }
+{
+    [
+        (kind / 256) as u8,
+        (kind % 256) as u8,
+        (epoch / 256) as u8,
+        (epoch % 256) as u8,
+        count,
+    ]
+}
+
+// Writes a request to the front of the outlet, and answers how many bytes it has.
+pub fn write_request<G: Group>(request: Request<'_>, out: &mut [u8]) -> Result<usize, WireFault>
+    ensures written { λ r. ⌜ r ≡ writes-request model (batch (request .entry)) (length (now (out .entry))) ⌝ }
+    ensures out { λ r. ⌜ now (out .exit) ≡ laid r (request-bytes model (batch (request .entry))) (now (out .entry)) ⌝ }
+{
+    if request.count == 0 || request.count > 16 {
+        return Err(WireFault::WrongCount);
+    }
+    if request.items.len() != request.count as usize * G::element_width() {
+        return Err(WireFault::WrongLength);
+    }
+    if out.len() < request_len::<G>(request.count) {
+        return Err(WireFault::ShortOutlet);
+    }
+    let at = put(out, 0, &head(G::kind(), request.epoch, request.count));
+    let end = put(out, at, request.items);
+    Ok(end)
+}
+
+// Writes a reply to the front of the outlet, and answers how many bytes it has.
+pub fn write_reply<G: Group>(reply: Reply<'_>, out: &mut [u8]) -> Result<usize, WireFault>
+    ensures written { λ r. ⌜ r ≡ writes-reply model (answers (reply .entry)) (length (now (out .entry))) ⌝ }
+    ensures out { λ r. ⌜ now (out .exit) ≡ laid r (reply-bytes model (answers (reply .entry))) (now (out .entry)) ⌝ }
+{
+    if reply.count == 0 || reply.count > 16 {
+        return Err(WireFault::WrongCount);
+    }
+    if reply.items.len() != reply.count as usize * G::element_width() {
+        return Err(WireFault::WrongLength);
+    }
+    let width = G::scalar_width();
+    if reply.challenge.len() != width || reply.response.len() != width {
+        return Err(WireFault::WrongLength);
+    }
+    if out.len() < reply_len::<G>(reply.count) {
+        return Err(WireFault::ShortOutlet);
+    }
+    let at = put(out, 0, &head(G::kind(), reply.epoch, reply.count));
+    let at = put(out, at, reply.items);
+    let at = put(out, at, reply.challenge);
+    let end = put(out, at, reply.response);
+    Ok(end)
+}
+
+// The input of a token, which a shop blinds and an authenticator is of.
+pub fn token_input(
+    kind: u16,
+    epoch: u16,
+    nonce: &[u8],
+    context: &[u8],
+    key_id: &[u8; 32],
+) -> Result<[u8; 100], WireFault>
+    ensures { λ r. ⌜ r ≡ token-input-of kind epoch (now (nonce .entry)) (now (context .entry)) (now («key_id» .entry)) ⌝ }
+{
+    if nonce.len() != 32 || context.len() != 32 {
+        return Err(WireFault::WrongLength);
+    }
+    let front = [
+        (kind / 256) as u8,
+        (kind % 256) as u8,
+        (epoch / 256) as u8,
+        (epoch % 256) as u8,
+    ];
+    let mut input = [0; 100];
+    put(&mut input, 0, &front);
+    put(&mut input, 4, nonce);
+    put(&mut input, 36, context);
+    put(&mut input, 68, key_id);
+    Ok(input)
+}
+
+// Reads a token.
+pub fn read_token(bytes: &[u8]) -> Result<Token<'_>, WireFault>
+    ensures fields { λ r. ⌜ token-seen r ≡ token-read (now (bytes .entry)) ⌝ }
+    ensures input { λ r. ⌜ made r (λ t. now (t .input) ≡ take 100 (now (bytes .entry))) ⌝ }
+{
+    if bytes.len() != 132 {
+        return Err(WireFault::WrongLength);
+    }
+    let mut nonce = [0; 32];
+    nonce.copy_from_slice(&bytes[4..36]);
+    Ok(Token {
+        kind: number(bytes[0], bytes[1]),
+        epoch: number(bytes[2], bytes[3]),
+        nonce,
+        context: &bytes[36..68],
+        key_id: &bytes[68..100],
+        authenticator: &bytes[100..132],
+        input: &bytes[0..100],
+    })
+}
+
+// Writes a token to the front of the outlet, and answers how many bytes it has.
+pub fn write_token(
+    input: &[u8; 100],
+    authenticator: &[u8; 32],
+    out: &mut [u8],
+) -> Result<usize, WireFault>
+    ensures written { λ r. ⌜ r ≡ writes-token (length (now (out .entry))) ⌝ }
+    ensures out { λ r. ⌜ now (out .exit) ≡ laid r (token-bytes (now (input .entry)) (now (authenticator .entry))) (now (out .entry)) ⌝ }
+{
+    if out.len() < 132 {
+        return Err(WireFault::ShortOutlet);
+    }
+    let at = put(out, 0, input);
+    let end = put(out, at, authenticator);
+    Ok(end)
 }

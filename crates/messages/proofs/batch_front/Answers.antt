@@ -1,10 +1,7 @@
 use mathlib.Core.Path.{_≡_, sym, _∙_}
-use mathlib.Core.Logic.{⊎-elim}
 use native.Mathlib.Omega.{arith}
-use lib.Dec.{eqb, ltb}
 use Rattle.std.proofs.shelf.Results.{err-from-errBy}
-use Rattle.std.proofs.shelf.Tests.{or-left, or-right, eq-eqb, lt-ltb}
-use Rattle.messages.proofs.Reading.{counted, front-short, front-other, front-uncounted, front-whole}
+use Rattle.messages.proofs.Reading.{counted, uncounted, front-short, front-other, front-uncounted, front-whole}
 use Rattle.messages.proofs.batch_front.Needs as need
 
 pub returns-in-Break-front : need.returns-in-Break-front
@@ -19,10 +16,9 @@ returns-then-front-kind g c =
 
 pub returns-then-front-eq0 : need.returns-then-front-eq0
 returns-then-front-eq0 g c =
-    let n = c .in-Continue-front .front .count in
     sym (front-uncounted (g .G·Group .model) (c .args .message .now) (c .in-Continue-front .front) (c .in-Continue-front .rest .now) (sym (c .in-Continue-front .ensures tt))
     (c .if-front-kind .left ∙ c .kind .ensures)
-    (⊎-elim (λ z. or-left (eqb n 0) (ltb 16 n) (eq-eqb n 0 z)) (λ z. or-right (eqb n 0) (ltb 16 n) (lt-ltb 16 n (z .1))) (c .then-front-eq0 .either)))
+    (uncounted (c .in-Continue-front .front .count) (c .then-front-eq0 .either)))
 
 pub returns : need.returns
 returns g c =

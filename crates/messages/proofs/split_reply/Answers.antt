@@ -28,5 +28,5 @@ returns g c =
     let wide = ap (λ (w : ℕ). n * w) ne in
     cc (
       split-whole m n rest (c .if-rest-codes .left ∙ ap (λ (w : ℕ). n * w + 2 * c .scalar-width-width .result) ne ∙ ap (λ (w : ℕ). n * m .element-width + 2 * w) ns),
-      wide
+      wide,
     )
