@@ -91,12 +91,13 @@ writes-token room = ruled ((ltb room 132, ShortOutlet) ∷ []) (Ok 132)
 -- what stands in the bytes of a token
 abbrev pub token-in : List ℕ → Parts
 token-in bytes = record {
-    kind = kind-in bytes;
-    epoch = epoch-in bytes;
-    nonce = take 32 (drop 4 bytes);
-    context = take 32 (drop 36 bytes);
-    key-id = take 32 (drop 68 bytes);
-    authenticator = take 32 (drop 100 bytes) }
+  kind = kind-in bytes;
+  epoch = epoch-in bytes;
+  nonce = take 32 (drop 4 bytes);
+  context = take 32 (drop 36 bytes);
+  key-id = take 32 (drop 68 bytes);
+  authenticator = take 32 (drop 100 bytes);
+}
 
 -- what a reader answers to a token
 unfoldable pub read-token : List ℕ → Result Parts WireFault

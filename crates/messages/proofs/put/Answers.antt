@@ -14,7 +14,7 @@ returns c =
     record {
       ends = refl;
       bytes =
-        ap (λ xs. take at out ++ (xs ++ drop (at + length part - at) (drop at out))) (c .copy-from-slice .ensures .after) ∙
-        ap (λ (k : ℕ). take at out ++ (part ++ drop k (drop at out))) (add-sub-cancel-left at (length part)) ∙
-        ap (λ xs. take at out ++ (part ++ xs)) (drop-drop (length part) at out)
+          ap (λ xs. take at out ++ (xs ++ drop (at + length part - at) (drop at out))) (c .copy-from-slice .ensures .after) ∙
+          ap (λ (k : ℕ). take at out ++ (part ++ drop k (drop at out))) (add-sub-cancel-left at (length part)) ∙
+          ap (λ xs. take at out ++ (part ++ xs)) (drop-drop (length part) at out);
     }

@@ -16,9 +16,9 @@ returns c =
     let nonce = c .copy-from-slice .ensures .after in
     record {
       fields =
-        ap (λ k. Ok (record { kind = k; epoch = c .number-2 .result; nonce = c .copy-from-slice .last .self; context = take 32 (drop 36 bytes); key-id = take 32 (drop 68 bytes); authenticator = take 32 (drop 100 bytes) })) kind ∙
-        ap (λ e. Ok (record { kind = kind-in bytes; epoch = e; nonce = c .copy-from-slice .last .self; context = take 32 (drop 36 bytes); key-id = take 32 (drop 68 bytes); authenticator = take 32 (drop 100 bytes) })) epoch ∙
-        ap (λ n. Ok (record { kind = kind-in bytes; epoch = epoch-in bytes; nonce = n; context = take 32 (drop 36 bytes); key-id = take 32 (drop 68 bytes); authenticator = take 32 (drop 100 bytes) })) nonce ∙
-        sym (token-whole bytes (c .if-bytes-ne132 .left));
-      input = refl
+          ap (λ k. Ok (record { kind = k; epoch = c .number-2 .result; nonce = c .copy-from-slice .last .self; context = take 32 (drop 36 bytes); key-id = take 32 (drop 68 bytes); authenticator = take 32 (drop 100 bytes) })) kind ∙
+          ap (λ e. Ok (record { kind = kind-in bytes; epoch = e; nonce = c .copy-from-slice .last .self; context = take 32 (drop 36 bytes); key-id = take 32 (drop 68 bytes); authenticator = take 32 (drop 100 bytes) })) epoch ∙
+          ap (λ n. Ok (record { kind = kind-in bytes; epoch = epoch-in bytes; nonce = n; context = take 32 (drop 36 bytes); key-id = take 32 (drop 68 bytes); authenticator = take 32 (drop 100 bytes) })) nonce ∙
+          sym (token-whole bytes (c .if-bytes-ne132 .left));
+      input = refl;
     }

@@ -15,7 +15,7 @@ returns-then-request-eq0 g c =
     let q = batch (c .args .request) in
     record {
       written = sym (request-uncounted (g .G·Group .model) q (length (c .args .out .now)) (uncounted (q .count) (c .then-request-eq0 .either)));
-      out = refl
+      out = refl;
     }
 
 pub returns-then-request-element-width : need.returns-then-request-element-width
@@ -23,9 +23,9 @@ returns-then-request-element-width g c =
     let q = batch (c .args .request) in
     record {
       written =
-        sym (request-mislong (g .G·Group .model) q (length (c .args .out .now)) (counted (q .count) (omega arith) (omega arith))
-        (λ l. c .if-request-element-width .taken (l ∙ ap (λ (w : ℕ). q .count * w) (sym (c .element-width .ensures)))));
-      out = refl
+          sym (request-mislong (g .G·Group .model) q (length (c .args .out .now)) (counted (q .count) (omega arith) (omega arith))
+          (λ l. c .if-request-element-width .taken (l ∙ ap (λ (w : ℕ). q .count * w) (sym (c .element-width .ensures)))));
+      out = refl;
     }
 
 pub returns-then-out-request-len : need.returns-then-out-request-len
@@ -33,9 +33,9 @@ returns-then-out-request-len g c =
     let q = batch (c .args .request) in
     record {
       written =
-        sym (request-narrow (g .G·Group .model) q (length (c .args .out .now)) (counted (q .count) (omega arith) (omega arith))
-        (c .if-request-element-width .left ∙ ap (λ (w : ℕ). q .count * w) (c .element-width .ensures)) (omega arith));
-      out = refl
+          sym (request-narrow (g .G·Group .model) q (length (c .args .out .now)) (counted (q .count) (omega arith) (omega arith))
+          (c .if-request-element-width .left ∙ ap (λ (w : ℕ). q .count * w) (c .element-width .ensures)) (omega arith));
+      out = refl;
     }
 
 pub put-at-requires : need.put-at-requires
@@ -45,8 +45,12 @@ put-at-requires g c κs = omega (arith, ap length (c .head .ensures), head-lengt
 pub put-end-requires : need.put-end-requires
 unfolding request-length place
 put-end-requires g c κs =
-    omega (arith, ap length (c .head .ensures), head-length (c .kind .result) (c .args .request .epoch) (c .args .request .count),
-      c .if-request-element-width .left ∙ ap (λ (w : ℕ). c .args .request .count * w) (c .element-width .ensures))
+    omega (
+      arith,
+      ap length (c .head .ensures),
+      head-length (c .kind .result) (c .args .request .epoch) (c .args .request .count),
+      c .if-request-element-width .left ∙ ap (λ (w : ℕ). c .args .request .count * w) (c .element-width .ensures),
+    )
 
 pub returns : need.returns
 returns g c =
@@ -57,7 +61,7 @@ returns g c =
     (c .head .ensures ∙ ap (λ k. head-bytes k (q .epoch) (q .count)) (c .kind .ensures)) (c .put-at .ensures) (c .put-end .ensures) in
     record {
       written =
-        ap (λ n. Ok n) (whole .1 ∙ request-bytes-length m q long) ∙
-        sym (request-fits m q (length (c .args .out .now)) (counted (q .count) (omega arith) (omega arith)) long (omega arith));
-      out = whole .0
+          ap (λ n. Ok n) (whole .1 ∙ request-bytes-length m q long) ∙
+          sym (request-fits m q (length (c .args .out .now)) (counted (q .count) (omega arith) (omega arith)) long (omega arith));
+      out = whole .0;
     }
