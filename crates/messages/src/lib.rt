@@ -14,6 +14,7 @@ ghost use lib.ListN.{length, take, drop};
 ghost use Rattle.std.specs.Vec.{made};
 ghost use Rattle.messages.specs.Answers.{Put, laid};
 ghost use Rattle.messages.specs.Messages.{header-of, front-of, read-request as request-read, read-reply as reply-read, split-reply as reply-split, request-length, reply-length, item-at, head-bytes, request-bytes, reply-bytes, token-input-of, token-bytes, read-token as token-read, writes-request, writes-reply, writes-token};
+ghost use Rattle.messages.specs.Laws.{RoundTrip, OneEncoding, Placed, TokenTrip};
 ghost use Rattle.messages.specs.Views.{header-seen, request-seen, reply-seen, split-seen, item-seen, token-seen, batch, answers};
 use faults::WireFault;
 use group::Group;
@@ -292,3 +293,23 @@ pub fn write_token(
     let end = put(out, at, authenticator);
     Ok(end)
 }
+
+// A batch that one end writes, the other end reads as that batch.
+pub fn round_trip_holds<G: Group>()
+    ensures { λ _. ⌜ RoundTrip model ⌝ }
+{}
+
+// Only its one encoding is read.
+pub fn one_encoding_holds<G: Group>()
+    ensures { λ _. ⌜ OneEncoding model ⌝ }
+{}
+
+// Each item's code stands at its place.
+pub fn places_hold<G: Group>()
+    ensures { λ _. ⌜ Placed model ⌝ }
+{}
+
+// A token is read as it was written, and only its one encoding is read.
+pub fn token_round_trip_holds()
+    ensures { λ _. ⌜ TokenTrip ⌝ }
+{}
