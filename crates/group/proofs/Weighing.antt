@@ -153,7 +153,7 @@ module _ {E S K : Type 0} (m : Model E S K) where
   row-length (p ∷ ps) =
       length-append (m .code p) (row m ps) ∙ omega (arith, m .coded p, row-length ps, suc-mul (length ps) (m .element-width))
 
-  elements-row : (i : ℕ) (ps : List E) → elements m i (length ps) (row m ps) ≡ Ok ps
+  pub elements-row : (i : ℕ) (ps : List E) → elements m i (length ps) (row m ps) ≡ Ok ps
   elements-row i [] = refl
   elements-row i (p ∷ ps) =
       let w = m .element-width in

@@ -1,2 +1,6 @@
 pub mod Meets
+<<<<<<< HEAD
 pub mod Reckoning
+=======
+pub mod Codes
+>>>>>>> messages
