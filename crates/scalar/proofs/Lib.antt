@@ -1,6 +1,3 @@
 pub mod Meets
-<<<<<<< HEAD
 pub mod Reckoning
-=======
 pub mod Codes
->>>>>>> messages
