@@ -1,0 +1,9 @@
+pub mod Mod
+pub mod Table
+pub mod Sought
+pub mod Logarithms
+pub mod Algebra
+pub mod Covered
+pub mod Cyclic
+pub mod Doubling
+pub mod Mapped

@@ -1,0 +1,45 @@
+-- What the map answers is a member.
+use mathlib.Core.Path.{_≡_, refl, sym, ap, _∙_, subst}
+use mathlib.Core.Bool.{Bool, not}
+use Prim.Native.Nat.{ℕ, suc, _+_, _*_, _/_, _%_, _<_}
+use native.Mathlib.Nat.{mod-lt}
+use native.Mathlib.Omega.{arith}
+use lib.Dec.{T, eqb, T-not, lit<}
+use Rattle.circ523.specs.declared.pair.Pair.{Pair}
+use Rattle.circ523.specs.Circle.{plus, null, times, base, slope-point, On-circle, Member}
+use Rattle.circ523.proofs.Mod.{mod-mul-left, mod-mul-right}
+use Rattle.circ523.proofs.Table.{below, below-at}
+use Rattle.circ523.proofs.Algebra.{alike, equal, norm}
+use Rattle.circ523.proofs.Covered.{four}
+use Rattle.circ523.proofs.Cyclic.{numbered}
+
+-- with s = (1 + t²)u: (1 − t²)²u² + 4t²u² = s²
+slope-circle : (t u : ℕ) → ((1 + t * t) * u) % 523 ≡ 1 → On-circle (slope-point t u)
+slope-circle t u e =
+    let s = (1 + t * t) * u in
+    let v = (1 + 522 * (t * t)) * u in
+    let w = 2 * t * u in
+    let first : (minus-part : ℕ) → minus-part ≡ ((1 + 522 * (t * t)) % 523 * u) % 523 → minus-part ≡ v % 523 =
+    λ k f. f ∙ mod-mul-left (1 + 522 * (t * t)) u 523 in
+    ap (λ (k : ℕ). (k * k + w % 523 * (w % 523)) % 523) (first _ refl) ∙ norm v w ∙
+    alike (v * v + w * w) (s * s) 0 ((2 * (t * t) + 521 * (t * t * (t * t))) * (u * u)) (omega arith) ∙
+    sym (mod-mul-left s s 523) ∙ ap (λ (k : ℕ). (k * s) % 523) e ∙ equal _ _ (omega arith) ∙ e
+
+-- Four times a point of the circle is a member.
+pub four-member : (a : Pair) → a .x < 523 → a .y < 523 → On-circle a → Member (times 4 a)
+four-member a h l c = let m = four a h l c in subst Member (m .2) (numbered .member (m .0) (m .1))
+
+pub mapped-member : (t u : ℕ) → ((1 + t * t) * u) % 523 ≡ 1 → Member (times 4 (slope-point t u))
+mapped-member t u e = four-member (slope-point t u) (mod-lt _ (lit< tt)) (mod-lt _ (lit< tt)) (slope-circle t u e)
+
+-- -1 is no square modulo 523
+abbrev no-root : ℕ → Bool
+no-root t = not (eqb ((1 + t * t) % 523) 0)
+
+tested : T (below no-root 523)
+tested = tt
+
+pub invertible : (t : ℕ) → t < 523 → 0 < (1 + t * t) % 523
+invertible t h =
+    let no-zero : ((1 + t * t) % 523 ≡ 0 → ⊥) = λ e. T-not (eqb ((1 + t * t) % 523) 0) (below-at no-root 523 tested t h) (subst (λ (k : ℕ). T (eqb k 0)) (sym e) tt) in
+    omega arith

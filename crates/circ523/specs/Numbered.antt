@@ -1,0 +1,27 @@
+-- A group whose members are numbered 0 to q − 1 so that a sum adds the numbers: they are the logarithms.
+use mathlib.Core.Path.{_≡_}
+use mathlib.Core.Bool.{Bool}
+use Prim.Native.Nat.{ℕ, _+_, _%_, _<_}
+use lib.Dec.{T}
+use Rattle.circ523.specs.Sought.{sought}
+
+pub record Numbered {A : Type 0} (Member : A → Type 0) (sum : A → A → A) (at : ℕ → A) (q : ℕ) : Type 0 where
+  -- there is one member at least: the null, with number 0
+  pub some : 0 < q
+  -- each number is a member's
+  pub member : (k : ℕ) → k < q → Member (at k)
+  -- each member has a number
+  pub all : (a : A) → Member a → (k : ℕ) × (k < q) × (at k ≡ a)
+  -- no member has two
+  pub apart : (j k : ℕ) → j < q → k < q → at j ≡ at k → j ≡ k
+  -- a sum adds the numbers
+  pub sums : (j k : ℕ) → j < q → k < q → sum (at j) (at k) ≡ at ((j + k) % q)
+
+-- A test that two members are the same.
+pub record Same {A : Type 0} (same : A → A → Bool) : Type 0 where
+  pub tells : (a b : A) → T (same a b) → a ≡ b
+  pub itself : (a : A) → T (same a a)
+
+-- the number of a member
+abbrev pub number-of : {A : Type 0} → (A → A → Bool) → (ℕ → A) → ℕ → A → ℕ
+number-of same at q a = sought (λ k. same (at k) a) q
