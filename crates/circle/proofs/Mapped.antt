@@ -5,13 +5,13 @@ use Prim.Native.Nat.{ℕ, suc, _+_, _*_, _/_, _%_, _<_}
 use native.Mathlib.Nat.{mod-lt}
 use native.Mathlib.Omega.{arith}
 use lib.Dec.{T, eqb, T-not, lit<}
-use Rattle.circ523.specs.declared.pair.Pair.{Pair}
-use Rattle.circ523.specs.Circle.{plus, null, times, base, slope-point, On-circle, Member}
-use Rattle.circ523.proofs.Mod.{mod-mul-left, mod-mul-right}
-use Rattle.circ523.proofs.Table.{below, below-at}
-use Rattle.circ523.proofs.Algebra.{alike, equal, norm}
-use Rattle.circ523.proofs.Covered.{four}
-use Rattle.circ523.proofs.Cyclic.{numbered}
+use Rattle.circle.specs.declared.Pair.{Pair}
+use Rattle.circle.specs.Circle.{plus, null, times, base, slope-point, On-circle, Member}
+use Rattle.circle.proofs.Mod.{mod-mul-left, mod-mul-right}
+use Rattle.circle.proofs.Table.{below, below-at}
+use Rattle.circle.proofs.Algebra.{alike, equal, norm}
+use Rattle.circle.proofs.Covered.{four}
+use Rattle.circle.proofs.Cyclic.{numbered}
 
 -- with s = (1 + t²)u: (1 − t²)²u² + 4t²u² = s²
 slope-circle : (t u : ℕ) → ((1 + t * t) * u) % 523 ≡ 1 → On-circle (slope-point t u)

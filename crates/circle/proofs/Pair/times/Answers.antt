@@ -3,12 +3,12 @@ use Prim.Native.Nat.{ℕ, _/_, _<_}
 use native.Mathlib.Nat.{mod-lt}
 use native.Mathlib.Omega.{arith}
 use lib.Dec.{lit<}
-use Rattle.circ523.specs.declared.pair.Pair.{Pair}
-use Rattle.circ523.specs.Circle.{plus, times}
-use Rattle.circ523.proofs.Algebra.{null-times}
-use Rattle.circ523.proofs.Doubling.{turn-odd, turn-even, ended}
-use Rattle.circ523.proofs.pair.Pair.times.Needs as need
-use Rattle.circ523.proofs.pair.Pair.times.Needs.{then-left-eq1, else-left-eq1}
+use Rattle.circle.specs.declared.Pair.{Pair}
+use Rattle.circle.specs.Circle.{plus, times}
+use Rattle.circle.proofs.Algebra.{null-times}
+use Rattle.circle.proofs.Doubling.{turn-odd, turn-even, ended}
+use Rattle.circle.proofs.Pair.times.Needs as need
+use Rattle.circle.proofs.Pair.times.Needs.{then-left-eq1, else-left-eq1}
 
 pub loop-left-holds : need.loop-left-holds
 loop-left-holds c = (lit< tt, lit< tt, null-times (c .args .n) (c .args .self))

@@ -3,7 +3,7 @@ use mathlib.Core.Path.{_≡_}
 use Prim.Native.Nat.{ℕ, zero, suc, _+_, _*_, _%_, _<_}
 use mathlib.Core.Bool.{Bool, _&&_}
 use lib.Dec.{eqb}
-use Rattle.circ523.specs.declared.pair.Pair.{Pair}
+use Rattle.circle.specs.declared.Pair.{Pair}
 
 -- a − b modulo 523, in which 522 is −1
 abbrev pub minus : ℕ → ℕ → ℕ

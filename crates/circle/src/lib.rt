@@ -1,9 +1,15 @@
-// Pairs of numbers modulo 523, and the sum of two of them. A pair need not lie on the circle: these are
-// the bare reckonings on which decoding decides whether a pair is an element.
+// The circle x² + y² = 1 over the numbers modulo 523.
+//
+// Its points are the pairs (x, y) that meet the equation; they add as angles do, and of the 524 points
+// 131 are the group circ523: those whose 131-fold sum is null. This crate has the bare reckonings on
+// pairs, on which the kind of group in `circ523` stands, and in proofs/ the mathematics: the sum is
+// associative and keeps to the circle, four times each point of the circle is a multiple of G, and so
+// each member is one of the 131 multiples of G, which are its logarithms.
 ghost use mathlib.Core.Path.{_≡_};
-ghost use lib.Dec.{T};
-ghost use Rattle.circ523.specs.Circle.{plus, times, opposite, On-circle};
+ghost use Rattle.std.specs.Orderings.{Decides};
+ghost use Rattle.circle.specs.Circle.{plus, times, opposite, On-circle, Member};
 
+// Two numbers modulo 523. A pair need not lie on the circle.
 #[derive(Clone, Copy, PartialEq, Eq, Debug)]
 pub struct Pair {
     pub x: u16,
@@ -56,9 +62,16 @@ impl Pair {
 
     // Whether x² + y² is 1.
     pub fn on_circle(self) -> bool
-        ensures { λ r. ⌜ (T r → On-circle self) × (On-circle self → T r) ⌝ }
+        ensures { λ r. ⌜ Decides r (On-circle self) ⌝ }
     {
         let (x, y) = (u64::from(self.x), u64::from(self.y));
         (x * x + y * y) % 523 == 1
+    }
+
+    // Whether the pair is an element. Being on the circle is not enough: of its 524 points, 131 are.
+    pub fn is_member(self) -> bool
+        ensures { λ r. ⌜ Decides r (Member self) ⌝ }
+    {
+        self.x < 523 && self.y < 523 && self.on_circle() && self.times(131) == Pair::NULL
     }
 }

@@ -2,9 +2,9 @@
 use mathlib.Core.Path.{_≡_, refl, sym, ap, _∙_}
 use Prim.Native.Nat.{ℕ, suc, _+_, _*_, _/_, _%_, _<_}
 use native.Mathlib.Omega.{arith}
-use Rattle.circ523.specs.declared.pair.Pair.{Pair}
-use Rattle.circ523.specs.Circle.{plus, null, times}
-use Rattle.circ523.proofs.Algebra.{plus-comm, plus-assoc, null-plus, times-suc, times-twice, times-zero}
+use Rattle.circle.specs.declared.Pair.{Pair}
+use Rattle.circle.specs.Circle.{plus, null, times}
+use Rattle.circle.proofs.Algebra.{plus-comm, plus-assoc, null-plus, times-suc, times-twice, times-zero}
 
 pub turn-odd : (r d : Pair) (n : ℕ) → n % 2 ≡ 1 → plus (plus r d) (times (n / 2) (plus d d)) ≡ plus r (times n d)
 turn-odd r d n e =

@@ -6,12 +6,12 @@ use native.Mathlib.Nat.{mul-comm, mod-add-div}
 use native.Mathlib.Decide.{decLt}
 use native.Mathlib.Omega.{arith}
 use lib.Dec.{T, T-not, lit<}
-use Rattle.circ523.specs.declared.pair.Pair.{Pair}
-use Rattle.circ523.specs.Circle.{plus, null, base, times, same-pair, On-circle, Member}
-use Rattle.circ523.specs.Numbered.{Numbered}
-use Rattle.circ523.proofs.Table.{below, below-at}
-use Rattle.circ523.proofs.Algebra.{plus-comm, null-plus, times-x, times-y, null-times, times-zero, times-suc, times-add, times-times, circle-times}
-use Rattle.circ523.proofs.Covered.{Multiple, four}
+use Rattle.circle.specs.declared.Pair.{Pair}
+use Rattle.circle.specs.Circle.{plus, null, base, times, same-pair, On-circle, Member}
+use Rattle.circle.specs.Numbered.{Numbered}
+use Rattle.circle.proofs.Table.{below, below-at}
+use Rattle.circle.proofs.Algebra.{plus-comm, null-plus, times-x, times-y, null-times, times-zero, times-suc, times-add, times-times, circle-times}
+use Rattle.circle.proofs.Covered.{Multiple, four}
 
 -- 131·G is null
 whole : times 131 base ≡ null

@@ -1,7 +1,7 @@
 use mathlib.Core.Path.{_≡_}
 use Prim.Native.Nat.{_<_}
-use Rattle.circ523.specs.Circle.{plus, times}
-use Rattle.circ523.proofs.pair.Pair.times.Given as given
+use Rattle.circle.specs.Circle.{plus, times}
+use Rattle.circle.proofs.Pair.times.Given as given
 
 -- the total so far and what is left make the multiple
 abbrev pub Inv-loop-left : given.InvT-loop-left

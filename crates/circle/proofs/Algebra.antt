@@ -4,9 +4,9 @@ use Prim.Native.Nat.{ℕ, zero, suc, _+_, _*_, _/_, _%_, _<_}
 use native.Mathlib.Omega.{arith}
 use native.Mathlib.Nat.{mod-add-div, add-mul-mod-self-left, mod-lt, mod-eq-of-lt, zero-add, suc-add, zero-mul, suc-mul}
 use lib.Dec.{lit<}
-use Rattle.circ523.proofs.Mod.{mod-mul-left}
-use Rattle.circ523.specs.declared.pair.Pair.{Pair}
-use Rattle.circ523.specs.Circle.{plus, null, times, opposite, On-circle, Member}
+use Rattle.circle.proofs.Mod.{mod-mul-left}
+use Rattle.circle.specs.declared.Pair.{Pair}
+use Rattle.circle.specs.Circle.{plus, null, times, opposite, On-circle, Member}
 
 -- Two numbers that differ by multiples of 523 leave the same remainder.
 pub alike : (a b m n : ℕ) → a + 523 * m ≡ b + 523 * n → a % 523 ≡ b % 523

@@ -6,7 +6,7 @@ use Prim.Native.Nat.{ℕ, zero, suc, _<_}
 use native.Mathlib.Nat.{eq-or-lt-of-le, le-of-suc-le-suc, not-suc-le-zero}
 use native.Mathlib.Omega.{arith}
 use lib.Dec.{T}
-use Rattle.circ523.specs.Sought.{sought}
+use Rattle.circle.specs.Sought.{sought}
 
 Found : (ℕ → Bool) → ℕ → ℕ → Type 0
 Found test n k = (k < n) × T (test k)
