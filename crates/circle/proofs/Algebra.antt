@@ -4,7 +4,7 @@ use Prim.Native.Nat.{ℕ, zero, suc, _+_, _*_, _/_, _%_, _<_}
 use native.Mathlib.Omega.{arith}
 use native.Mathlib.Nat.{mod-add-div, add-mul-mod-self-left, mod-lt, mod-eq-of-lt, zero-add, suc-add, zero-mul, suc-mul}
 use lib.Dec.{lit<}
-use Rattle.circle.proofs.Mod.{mod-mul-left}
+use Rattle.numbers.proofs.Mod.{mod-mul-left}
 use Rattle.circle.specs.declared.Pair.{Pair}
 use Rattle.circle.specs.Circle.{plus, null, times, opposite, On-circle, Member}
 

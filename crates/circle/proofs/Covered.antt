@@ -10,9 +10,9 @@ use lib.Dec.{T, eqb, ltb, eqb→eq, eqb-refl, ltb→lt, lit<, T-not}
 use lib.ListN.{length, getD}
 use Rattle.circle.specs.declared.Pair.{Pair}
 use Rattle.circle.specs.Circle.{plus, null, base, times, same-pair, On-circle, Member}
-use Rattle.circle.specs.Numbered.{Same}
+use Rattle.numbers.specs.Numbered.{Same}
 use Rattle.circle.proofs.Algebra.{alike, same}
-use Rattle.circle.proofs.Table.{both, both-left, both-right, every, at, below, below-at}
+use Rattle.numbers.proofs.Table.{both, both-left, both-right, every, at, below, below-at}
 
 -- 523 is 3 modulo 4, so c ^ 131 is a square root of c, if c has one
 abbrev root : ℕ → ℕ

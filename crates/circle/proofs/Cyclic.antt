@@ -8,8 +8,8 @@ use native.Mathlib.Omega.{arith}
 use lib.Dec.{T, T-not, lit<}
 use Rattle.circle.specs.declared.Pair.{Pair}
 use Rattle.circle.specs.Circle.{plus, null, base, times, same-pair, On-circle, Member}
-use Rattle.circle.specs.Numbered.{Numbered}
-use Rattle.circle.proofs.Table.{below, below-at}
+use Rattle.numbers.specs.Numbered.{Numbered}
+use Rattle.numbers.proofs.Table.{below, below-at}
 use Rattle.circle.proofs.Algebra.{plus-comm, null-plus, times-x, times-y, null-times, times-zero, times-suc, times-add, times-times, circle-times}
 use Rattle.circle.proofs.Covered.{Multiple, four}
 

@@ -1,9 +1,6 @@
-pub mod Mod
-pub mod Table
-pub mod Sought
-pub mod Logarithms
 pub mod Algebra
+pub mod Doubling
 pub mod Covered
 pub mod Cyclic
-pub mod Doubling
-pub mod Mapped
+pub mod Fourfold
+pub mod Field

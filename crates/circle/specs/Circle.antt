@@ -3,6 +3,7 @@ use mathlib.Core.Path.{_≡_}
 use Prim.Native.Nat.{ℕ, zero, suc, _+_, _*_, _%_, _<_}
 use mathlib.Core.Bool.{Bool, _&&_}
 use lib.Dec.{eqb}
+use Rattle.scalar.specs.Inverse.{inverse-number}
 use Rattle.circle.specs.declared.Pair.{Pair}
 
 -- a − b modulo 523, in which 522 is −1
@@ -37,10 +38,14 @@ On-circle a = (a .x * a .x + a .y * a .y) % 523 ≡ 1
 abbrev pub Member : Pair → Type 0
 Member a = (a .x < 523) × (a .y < 523) × On-circle a × (times 131 a ≡ null)
 
--- whether two pairs are the same
-abbrev pub same-pair : Pair → Pair → Bool
-same-pair a b = eqb (a .x) (b .x) && eqb (a .y) (b .y)
-
 -- the point ((1 − t²)u, 2tu)
 abbrev pub slope-point : ℕ → ℕ → Pair
 slope-point t u = record { x = (minus 1 (t * t) * u) % 523; y = (2 * t * u) % 523 }
+
+-- The map: with t = N modulo 523 and u the inverse of 1 + t², four times ((1 − t²)u, 2tu).
+unfoldable pub mapped-pair : ℕ → Pair
+mapped-pair n = let t = n % 523 in times 4 (slope-point t (inverse-number 523 ((1 + t * t) % 523)))
+
+-- whether two pairs are the same
+abbrev pub same-pair : Pair → Pair → Bool
+same-pair a b = eqb (a .x) (b .x) && eqb (a .y) (b .y)

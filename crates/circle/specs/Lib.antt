@@ -1,3 +1,1 @@
-pub mod Sought
-pub mod Numbered
 pub mod Circle

@@ -6,8 +6,12 @@
 // associative and keeps to the circle, four times each point of the circle is a multiple of G, and so
 // each member is one of the 131 multiples of G, which are its logarithms.
 ghost use mathlib.Core.Path.{_≡_};
+ghost use Prim.Native.Nat.{_+_, _*_, _%_, _<_};
+ghost use Rattle.scalar.specs.Inverse.{inverse-number};
 ghost use Rattle.std.specs.Orderings.{Decides};
-ghost use Rattle.circle.specs.Circle.{plus, times, opposite, On-circle, Member};
+ghost use Rattle.circle.specs.Circle.{plus, times, opposite, On-circle, Member, slope-point, mapped-pair};
+use scalar::Order;
+use scalar::Scalar;
 
 // Two numbers modulo 523. A pair need not lie on the circle.
 #[derive(Clone, Copy, PartialEq, Eq, Debug)]
@@ -74,4 +78,39 @@ impl Pair {
     {
         self.x < 523 && self.y < 523 && self.on_circle() && self.times(131) == Pair::NULL
     }
+}
+
+// The numbers modulo the prime 523.
+fn plane() -> Order<523> {
+    Order {}
+}
+
+// The inverse of a number modulo 523.
+fn inverse(n: u32) -> u16
+    ensures { λ r. ⌜ r ≡ inverse-number 523 (n % 523) ⌝ }
+{
+    let s = Scalar {
+        value: (n % 523) as u16,
+    };
+    plane().inverse(s).value
+}
+
+// The point ((1 - t²)u, 2tu).
+fn slope(t: u16, u: u16) -> Pair
+    ensures { λ r. ⌜ r ≡ slope-point t u ⌝ }
+{
+    let (t, u) = (u64::from(t), u64::from(u));
+    Pair {
+        x: ((1 + 522 * (t * t)) % 523 * u % 523) as u16,
+        y: (2 * t * u % 523) as u16,
+    }
+}
+
+// The pair that a word maps to: four times a point of the circle.
+pub fn mapped(word: u64) -> Pair
+    ensures { λ r. ⌜ r ≡ mapped-pair word ⌝ }
+{
+    let t = (word % 523) as u16;
+    let norm = 1 + t as u32 * t as u32;
+    slope(t, inverse(norm)).times(4)
 }

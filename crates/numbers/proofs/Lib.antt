@@ -4,3 +4,4 @@ pub mod Primes
 pub mod Sought
 pub mod Powers
 pub mod Bytes
+pub mod Logarithms

@@ -65,6 +65,13 @@ pub fn leading_word(bytes: &[u8; 32]) -> u64
     ensures { λ r. ⌜ r ≡ word (now (bytes .entry)) ⌝ }
 {
     u64::from_be_bytes([
-        bytes[0], bytes[1], bytes[2], bytes[3], bytes[4], bytes[5], bytes[6], bytes[7],
+        bytes[0],
+        bytes[1],
+        bytes[2],
+        bytes[3],
+        bytes[4],
+        bytes[5],
+        bytes[6],
+        bytes[7],
     ])
 }

@@ -12,7 +12,6 @@ ghost use Rattle.faults.specs.declared.GroupFault.{GroupFault};
 ghost use Rattle.numbers.specs.Bytes.{code-bytes};
 ghost use Rattle.scalar.specs.Scalars.{added, subtracted, multiplied, bit-at, scalar-code, scalar-of, reduced};
 ghost use Rattle.scalar.specs.Modulo.{modulo};
-
 use faults::GroupFault;
 use numbers::Code;
 use numbers::leading_word;

@@ -7,7 +7,6 @@ use Rattle.scalar.specs.Scalars.{added, subtracted, multiplied, bit-at, scalar
 use Rattle.scalar.specs.Laws.{width-of, scalar-at, same-value}
 use Rattle.scalar.proofs.Meets.{width-one, width-two, by-value, zero-inverse, one-inverse, bit-past, code-one, code-two, decoded, refused, is-nonzero, is-zero}
 use Rattle.scalar.proofs.order.Order.bit.Needs as need
-
 use Rattle.std.proofs.shelf.Tests.{le-ltb}
 
 pub returns-then-place-lt16 : need.returns-then-place-lt16

@@ -7,7 +7,6 @@ use Rattle.scalar.specs.Scalars.{added, subtracted, multiplied, bit-at, scalar
 use Rattle.scalar.specs.Laws.{width-of, scalar-at, same-value}
 use Rattle.scalar.proofs.Meets.{width-one, width-two, by-value, zero-inverse, one-inverse, bit-past, code-one, code-two, decoded, refused, is-nonzero, is-zero}
 use Rattle.scalar.proofs.order.Order.same.Needs as need
-
 use borrow.Author.Tests.{eq-eqb, eqb-true}
 
 pub returns : need.returns

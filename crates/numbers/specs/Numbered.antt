@@ -3,7 +3,7 @@ use mathlib.Core.Path.{_≡_}
 use mathlib.Core.Bool.{Bool}
 use Prim.Native.Nat.{ℕ, _+_, _%_, _<_}
 use lib.Dec.{T}
-use Rattle.circle.specs.Sought.{sought}
+use Rattle.numbers.specs.Sought.{sought}
 
 pub record Numbered {A : Type 0} (Member : A → Type 0) (sum : A → A → A) (at : ℕ → A) (q : ℕ) : Type 0 where
   -- there is one member at least: the null, with number 0

@@ -6,8 +6,8 @@ use native.Mathlib.Nat.{mod-lt, mod-eq-of-lt, mod-self, sub-zero, add-mul-mod-se
 use native.Mathlib.Decide.{decLt}
 use native.Mathlib.Omega.{arith}
 use lib.Dec.{T}
-use Rattle.circle.specs.Numbered.{Numbered, Same, number-of}
-use Rattle.circle.proofs.Sought.{found}
+use Rattle.numbers.specs.Numbered.{Numbered, Same, number-of}
+use Rattle.numbers.proofs.Sought.{found}
 
 -- two numbers below q whose sum is a multiple of q
 balanced-by : (q l m : ℕ) → Dec (l + m < q) → Dec (0 < l) → l < q → m < q → (l + m) % q ≡ 0 → m ≡ (q - l) % q

@@ -7,8 +7,8 @@ use native.Mathlib.Omega.{arith}
 use lib.Dec.{T, eqb, T-not, lit<}
 use Rattle.circle.specs.declared.Pair.{Pair}
 use Rattle.circle.specs.Circle.{plus, null, times, base, slope-point, On-circle, Member}
-use Rattle.circle.proofs.Mod.{mod-mul-left, mod-mul-right}
-use Rattle.circle.proofs.Table.{below, below-at}
+use Rattle.numbers.proofs.Mod.{mod-mul-left, mod-mul-right}
+use Rattle.numbers.proofs.Table.{below, below-at}
 use Rattle.circle.proofs.Algebra.{alike, equal, norm}
 use Rattle.circle.proofs.Covered.{four}
 use Rattle.circle.proofs.Cyclic.{numbered}
