@@ -1,39 +1,37 @@
--- The logarithm and the code of an element.
-use mathlib.Core.Path.{_≡_, ap}
-use mathlib.Core.HLevel.{isProp→PathP}
+-- The elements of circ523, their logarithms, their codes and the map.
 use mathlib.Core.List.{List, [], _∷_}
-use native.Mathlib.Bridge.{le-prop}
-use native.Mathlib.Nat.{ℕ-set}
 use Prim.Native.Nat.{ℕ, _/_, _%_}
-use Rattle.circ523.specs.declared.pair.Pair.{Pair}
+use Rattle.std.specs.declared.option.Option.{Option}
+use lib.Dec.{lit<, lit≤}
+use Rattle.numbers.specs.Bytes.{word}
+use Rattle.numbers.proofs.Primes.{prime-by-test}
+use Rattle.scalar.specs.declared.order.Order.{Order}
+use Rattle.numbers.specs.Numbered.{number-of, coded-by}
+use Rattle.circle.specs.Circle.{times, base, same-pair, mapped-pair}
+use Rattle.circle.proofs.Cyclic.{multiple-member}
+use Rattle.circle.proofs.Fourfold.{mapped-member}
 use Rattle.circ523.specs.declared.point.Point.{Point}
-use Rattle.circ523.specs.Circle.{times, base, same-pair, Member}
-use Rattle.circ523.specs.Numbered.{number-of}
+
+-- 131 is prime
+unfoldable pub order : Order 131
+order = record { low = lit≤ tt; high = lit< tt; prime = prime-by-test 131 (lit< tt) tt }
 
 -- the number k below 131 with k·G = p
-abbrev pub log-of : Point → ℕ
-log-of p = number-of same-pair (λ k. times k base) 131 (p .pair)
+unfoldable pub logarithm : Point → ℕ
+logarithm p = number-of same-pair (λ k. times k base) 131 (p .pair)
 
--- x and then y, in two bytes each, the high byte first
-abbrev pub code-of : Point → List ℕ
+-- n·G, with n taken modulo 131
+unfoldable pub multiple-of-base : ℕ → Point
+multiple-of-base n = record { pair = times (n % 131) base; member = multiple-member (n % 131) }
+
+-- x and then y, in two bytes each
+unfoldable pub code-of : Point → List ℕ
 code-of p = p .pair .x / 256 ∷ p .pair .x % 256 ∷ p .pair .y / 256 ∷ p .pair .y % 256 ∷ []
 
-pair-set : (a b : Pair) → IsProp (a ≡ b)
-pair-set a b e f = λ j i. record {
-  x = ℕ-set (a .x) (b .x) (λ k. e k .x) (λ k. f k .x) j i;
-  y = ℕ-set (a .y) (b .y) (λ k. e k .y) (λ k. f k .y) j i;
-}
+-- the element that has the bytes as its code, if there is one
+unfoldable pub element-of : List ℕ → Option Point
+element-of bytes = coded-by code-of multiple-of-base 131 bytes
 
-member-prop : (a : Pair) → IsProp (Member a)
-member-prop a m n = λ i. (
-  le-prop (m .0) (n .0) i,
-  le-prop (m .1) (n .1) i,
-  ℕ-set _ _ (m .2) (n .2) i,
-  pair-set _ _ (m .3) (n .3) i,
-)
-
-pub same-point : (p r : Point) → p .pair ≡ r .pair → p ≡ r
-same-point p r e = λ i. record {
-  pair = e i;
-  ok = isProp→PathP (λ j. Member (e j)) (λ j. member-prop (e j)) (p .ok) (r .ok) i;
-}
+-- the element that 32 bytes map to
+unfoldable pub mapped-point : List ℕ → Point
+mapped-point bytes = record { pair = mapped-pair (word bytes); member = mapped-member (word bytes) }

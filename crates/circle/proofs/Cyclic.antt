@@ -31,8 +31,8 @@ around n =
     ap (λ (k : ℕ). times k base) (sym (mod-add-div n 131)) ∙ times-add (n % 131) (131 * (n / 131)) base ∙
     ap (plus (times (n % 131) base)) (rounds (n / 131)) ∙ plus-comm (times (n % 131) base) null ∙ null-times (n % 131) base
 
-member : (k : ℕ) → Member (times k base)
-member k = (
+pub multiple-member : (k : ℕ) → Member (times k base)
+multiple-member k = (
   times-x k base,
   times-y k base,
   circle-times k base refl,
@@ -74,7 +74,7 @@ apart-by j k (no l) (no m) hj hk e = omega arith
 pub numbered : Numbered Member plus (λ k. times k base) 131
 numbered = record {
   some = lit< tt;
-  member = λ k h. member k;
+  member = λ k h. multiple-member k;
   all = all;
   apart = λ j k. apart-by j k (decLt j k) (decLt k j);
   sums = λ j k hj hk. sym (times-add j k base) ∙ around (j + k);

@@ -5,3 +5,4 @@ pub mod Sought
 pub mod Powers
 pub mod Bytes
 pub mod Logarithms
+pub mod Codes
