@@ -13,7 +13,12 @@ use Rattle.std.proofs.shelf.Bits.{div-below, div-mul-add, mod-mul-add}
 use Rattle.std.proofs.shelf.Lists.{take-more}
 use Rattle.std.proofs.shelf.Elements.{all-push, all-getD}
 use lib.Seq.{take-all}
-use Rattle.numbers.specs.Bytes.{read, written, word}
+use mathlib.Core.Bool.{Bool, true, _&&_}
+use mir.Val.{Fits}
+use mir.Syntax.{w8}
+use lib.Dec.{ltb}
+use Rattle.std.proofs.shelf.Tests.{ltb-true, lt-ltb, and-from, and-parts}
+use Rattle.numbers.specs.Bytes.{read, written, word, are-bytes}
 
 -- the word is the sum of the first 8 bytes, each at its place
 pub word-is : (xs : List ℕ) → 8 ≤ length xs →
@@ -79,3 +84,20 @@ pub written-read : (xs : List ℕ) → All (λ b. b < 256) xs → written (lengt
 written-read xs a =
     let all = take-all (length xs) xs (omega arith) in
     ap (λ ys. written (length xs) (read ys)) (sym all) ∙ written-part xs a (length xs) (omega arith) ∙ all
+
+-- what a slice of bytes holds are bytes
+pub slice-bytes : (xs : List ℕ) → ((i : ℕ) → Fits w8 (getD xs i 0)) → are-bytes xs ≡ true
+slice-bytes [] f = refl
+slice-bytes (x ∷ xs) f =
+    let small : x < 256 = omega (arith, f 0) in
+    and-from (ltb x 256) (are-bytes xs) (lt-ltb x 256 small) (slice-bytes xs (λ i. f (suc i)))
+
+pub bytes-below : (xs : List ℕ) → are-bytes xs ≡ true → All (λ b. b < 256) xs
+bytes-below [] e = tt
+bytes-below (x ∷ xs) e =
+    let both = and-parts (ltb x 256) (are-bytes xs) e in
+    (ltb-true x 256 (both .0), bytes-below xs (both .1))
+
+pub below-bytes : (xs : List ℕ) → All (λ b. b < 256) xs → are-bytes xs ≡ true
+below-bytes [] a = refl
+below-bytes (x ∷ xs) a = and-from (ltb x 256) (are-bytes xs) (lt-ltb x 256 (a .0)) (below-bytes xs (a .1))

@@ -1,9 +1,16 @@
 -- Numbers in bytes, the high byte first.
+use mathlib.Core.Bool.{Bool, true, _&&_}
 use mathlib.Core.List.{List, [], _∷_, _++_}
 use Prim.Native.Nat.{ℕ, zero, suc, _+_, _*_, _/_, _%_}
+use lib.Dec.{ltb}
 use lib.ListN.{take}
 use Rattle.std.specs.shelf.Digits.{number}
 use Rattle.numbers.specs.declared.code.Code.{Code}
+
+-- bytes are numbers below 256
+abbrev pub are-bytes : List ℕ → Bool
+are-bytes [] = true
+are-bytes (b ∷ bytes) = ltb b 256 && are-bytes bytes
 
 -- the number that bytes write
 abbrev pub read : List ℕ → ℕ

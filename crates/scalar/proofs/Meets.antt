@@ -18,7 +18,7 @@ use Rattle.std.specs.declared.result.Result.{Result}
 use Rattle.std.specs.declared.result.Result.the-variants.{Ok, Err}
 use Rattle.faults.specs.declared.GroupFault.{GroupFault}
 use Rattle.faults.specs.declared.GroupFault.the-variants.{NoScalar}
-use Rattle.numbers.specs.Bytes.{read, written}
+use Rattle.numbers.specs.Bytes.{are-bytes, read, written}
 use Rattle.scalar.specs.Scalars.{Scalars, scalar-code, scalar-of, bit-at}
 use Rattle.scalar.specs.Inverse.{inverse-number}
 use Rattle.scalar.specs.Laws.{scalar-at, width-of, same-value, same-part, inverse-only, inverse-none, inverse-found, none, some}
@@ -71,13 +71,15 @@ module _ {q : ℕ} (o : Order q) where
       let small : s .value / 256 < 256 = div-below (s .value) 256 256 (omega arith) (omega arith) in
       sym (ap (λ (w : ℕ). written w (s .value)) (width-two q h) ∙ ap (λ (x : ℕ). x ∷ s .value % 256 ∷ []) (mod-eq-of-lt small))
 
-  pub decoded : (bytes : List ℕ) (r : Scalar q) → length bytes ≡ width-of q → read bytes ≡ r .value →
+  pub decoded : (bytes : List ℕ) (r : Scalar q) → are-bytes bytes ≡ true → length bytes ≡ width-of q → read bytes ≡ r .value →
       Ok r ≡ okOr (scalar-of (modulo o) bytes) NoScalar
   unfolding modulo scalar-of
-  decoded bytes r e v =
-      let test = and-from (eqb (length bytes) (width-of q)) (ltb (read bytes) q) (eq-eqb (length bytes) (width-of q) e) (lt-ltb (read bytes) q (subst (λ (x : ℕ). x < q) (sym v) (r .below))) in
+  decoded bytes r a e v =
+      let small = subst (λ (x : ℕ). x < q) (sym v) (r .below) in
+      let fits = and-from (eqb (length bytes) (width-of q)) (ltb (read bytes) q) (eq-eqb (length bytes) (width-of q) e) (lt-ltb (read bytes) q small) in
+      let test = and-from (are-bytes bytes) (eqb (length bytes) (width-of q) && ltb (read bytes) q) a fits in
       sym (ap (λ t. okOr (cond t (Some (modulo o .scalar (read bytes))) None) NoScalar) test ∙
-      ap (λ x. Ok x) (sym (by-value r (read bytes) (sym v ∙ sym (mod-eq-of-lt (subst (λ (x : ℕ). x < q) (sym v) (r .below)))))))
+      ap (λ x. Ok x) (sym (by-value r (read bytes) (sym v ∙ sym (mod-eq-of-lt small)))))
 
   refused-by : (bytes : List ℕ) (t : Bool) → (t ≡ true → ⊥) → Err NoScalar ≡ okOr (cond t (Some (modulo o .scalar (read bytes))) None) NoScalar
   refused-by bytes true h = absurd (h refl)
@@ -87,8 +89,9 @@ module _ {q : ℕ} (o : Order q) where
       Err NoScalar ≡ okOr (scalar-of (modulo o) bytes) NoScalar
   unfolding modulo scalar-of
   refused bytes h =
-      refused-by bytes (eqb (length bytes) (width-of q) && ltb (read bytes) q)
-      (λ e. let both = and-parts (eqb (length bytes) (width-of q)) (ltb (read bytes) q) e in
+      refused-by bytes (are-bytes bytes && (eqb (length bytes) (width-of q) && ltb (read bytes) q))
+      (λ e. let all = and-parts (are-bytes bytes) (eqb (length bytes) (width-of q) && ltb (read bytes) q) e in
+      let both = and-parts (eqb (length bytes) (width-of q)) (ltb (read bytes) q) (all .1) in
       h (eqb-true (length bytes) (width-of q) (both .0)) (ltb-true (read bytes) q (both .1)))
 
   pub is-nonzero : (k : NonZero q) → Ok k ≡ okOr (modulo o .nonzero (k .scalar)) NoScalar

@@ -9,7 +9,7 @@ use lib.ListN.{length}
 use Rattle.std.specs.declared.option.Option.{Option}
 use Rattle.std.specs.declared.option.Option.the-variants.{Some, None}
 use Rattle.numbers.specs.Prime.{Prime}
-use Rattle.numbers.specs.Bytes.{read, written, word}
+use Rattle.numbers.specs.Bytes.{are-bytes, read, written, word}
 
 pub record Scalars (S K : Type 0) : Type 0 where
   -- how many scalars there are
@@ -70,7 +70,8 @@ module _ {S K : Type 0} (m : Scalars S K) where
 
   -- the scalar that has the code, if there is one
   unfoldable pub scalar-of : List ℕ → Option S
-  scalar-of bytes = cond (eqb (length bytes) (m .width) && ltb (read bytes) (m .order)) (Some (m .scalar (read bytes))) None
+  scalar-of bytes =
+      cond (are-bytes bytes && (eqb (length bytes) (m .width) && ltb (read bytes) (m .order))) (Some (m .scalar (read bytes))) None
 
   -- what the first 8 bytes write, modulo the order
   unfoldable pub reduced : List ℕ → S

@@ -3,7 +3,7 @@ use Prim.Native.Nat.{ℕ, _<_, _≤_}
 use native.Mathlib.Omega.{arith}
 use lib.ListN.{length}
 use Rattle.numbers.specs.Bytes.{read}
-use Rattle.numbers.proofs.Bytes.{read-one, read-two}
+use Rattle.numbers.proofs.Bytes.{read-one, read-two, slice-bytes}
 use Rattle.scalar.specs.Modulo.{modulo}
 use Rattle.scalar.proofs.Meets.{width-one, width-two, decoded, refused}
 use Rattle.scalar.proofs.order.Order.decode.Needs as need
@@ -23,7 +23,7 @@ pub returns-then-value : need.returns-then-value
 unfolding modulo
 returns-then-value g c =
     let bytes = c .args .bytes .now in
-    decoded (c .args .self) bytes _ (c .if-bytes-width .left ∙ c .width .ensures)
+    decoded (c .args .self) bytes _ (slice-bytes bytes (c .typed .bytes)) (c .if-bytes-width .left ∙ c .width .ensures)
     (elim (c .if-this-le256 .came) [
       | then-this-le256 w ↦ read-one bytes (c .if-bytes-width .left ∙ c .width .ensures ∙ width-one (g .Q) (w .if-this-le256 .taken)) ∙ sym (w .value-is)
       | else-this-le256 w ↦ read-two bytes (c .if-bytes-width .left ∙ c .width .ensures ∙ width-two (g .Q) (w .if-this-le256 .left)) ∙ sym (w .value-is)
