@@ -7,6 +7,7 @@ use Rattle.numbers.specs.Bytes.{word}
 use Rattle.numbers.proofs.Primes.{prime-by-test}
 use Rattle.scalar.specs.declared.order.Order.{Order}
 use Rattle.numbers.specs.Numbered.{number-of, coded-by}
+use Rattle.circle.specs.declared.Pair.{Pair}
 use Rattle.circle.specs.Circle.{times, base, same-pair, mapped-pair}
 use Rattle.circle.proofs.Cyclic.{multiple-member}
 use Rattle.circle.proofs.Fourfold.{mapped-member}
@@ -25,8 +26,11 @@ unfoldable pub multiple-of-base : ℕ → Point
 multiple-of-base n = record { pair = times (n % 131) base; member = multiple-member (n % 131) }
 
 -- x and then y, in two bytes each
+abbrev pub pair-code : Pair → List ℕ
+pair-code a = a .x / 256 ∷ a .x % 256 ∷ a .y / 256 ∷ a .y % 256 ∷ []
+
 unfoldable pub code-of : Point → List ℕ
-code-of p = p .pair .x / 256 ∷ p .pair .x % 256 ∷ p .pair .y / 256 ∷ p .pair .y % 256 ∷ []
+code-of p = pair-code (p .pair)
 
 -- the element that has the bytes as its code, if there is one
 unfoldable pub element-of : List ℕ → Option Point

@@ -31,7 +31,7 @@ points = record {
   faithful = laws.faithful;
   full = laws.full-order;
   coded = laws.coded;
-  code-bytes = laws.code-bytes;
+  coded-bytes = laws.coded-bytes;
   decoded = laws.decoded;
   encoded = laws.encoded;
 }

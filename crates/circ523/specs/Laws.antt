@@ -65,9 +65,9 @@ pub coded : (p : Point) → length (code-of p) ≡ 4
 unfolding code-of
 coded p = refl
 
-pub code-bytes : (p : Point) → All (λ b. b < 256) (code-of p)
+pub coded-bytes : (p : Point) → All (λ b. b < 256) (code-of p)
 unfolding code-of
-code-bytes p =
+coded-bytes p =
     let x = p .member .0 in
     let y = p .member .1 in
     (omega arith, (mod-lt (p .pair .x) {m = 256} (lit< tt), (omega arith, (mod-lt (p .pair .y) {m = 256} (lit< tt), tt))))

@@ -4,9 +4,9 @@
 // and its logarithm is the number of times that G = (82, 434) goes into it. The equation alone does not
 // make an element: the circle has 524 points, and decoding refuses the 393 that are not in the group.
 ghost use mathlib.Core.Path.{_≡_};
-ghost use Rattle.circle.specs.Circle.{null as null-pair, base as base-pair, plus, opposite as opposite-pair, times, mapped-pair};
 ghost use Rattle.circ523.specs.Elements.{order};
 ghost use Rattle.circ523.specs.Kind.{points};
+ghost use Rattle.circ523.specs.Worked.{Circle-group, Worked};
 use circle::Pair;
 use circle::PairPartialEq;
 use circle::mapped;
@@ -153,3 +153,13 @@ pub impl Group for Point as PointGroup {
         order().part(k)
     }
 }
+
+// The group that the model speaks of by logarithms is the circle's: its elements add as points do.
+pub fn circle_group_holds()
+    ensures { λ _. ⌜ Circle-group ⌝ }
+{}
+
+// The worked values of the table in specs/ hold.
+pub fn worked_values_hold()
+    ensures { λ _. ⌜ Worked ⌝ }
+{}

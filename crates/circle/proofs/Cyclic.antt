@@ -2,16 +2,17 @@
 use mathlib.Core.Path.{_≡_, refl, sym, ap, _∙_, subst}
 use mathlib.Core.Bool.{Bool, not}
 use Prim.Native.Nat.{ℕ, zero, suc, _+_, _-_, _*_, _/_, _%_, _<_}
-use native.Mathlib.Nat.{mul-comm, mod-add-div}
+use native.Mathlib.Nat.{mul-comm, mod-add-div, mod-lt}
 use native.Mathlib.Decide.{decLt}
 use native.Mathlib.Omega.{arith}
 use lib.Dec.{T, T-not, lit<}
 use Rattle.circle.specs.declared.Pair.{Pair}
-use Rattle.circle.specs.Circle.{plus, null, base, times, same-pair, On-circle, Member}
-use Rattle.numbers.specs.Numbered.{Numbered}
+use Rattle.circle.specs.Circle.{plus, opposite, null, base, times, same-pair, On-circle, Member}
+use Rattle.numbers.specs.Numbered.{Numbered, number-of}
+use Rattle.numbers.proofs.Logarithms.{log-below, at-log}
 use Rattle.numbers.proofs.Table.{below, below-at}
-use Rattle.circle.proofs.Algebra.{plus-comm, null-plus, times-x, times-y, null-times, times-zero, times-suc, times-add, times-times, circle-times}
-use Rattle.circle.proofs.Covered.{Multiple, four}
+use Rattle.circle.proofs.Algebra.{plus-comm, plus-assoc, plus-opposite, null-plus, times-x, times-y, null-times, times-zero, times-suc, times-add, times-times, circle-times}
+use Rattle.circle.proofs.Covered.{Multiple, same-pairs, four}
 
 -- 131·G is null
 whole : times 131 base ≡ null
@@ -79,3 +80,17 @@ numbered = record {
   apart = λ j k. apart-by j k (decLt j k) (decLt k j);
   sums = λ j k hj hk. sym (times-add j k base) ∙ around (j + k);
 }
+
+-- The opposite of a member is the multiple of G that lacks to 131.
+pub opposite-multiple : (a : Pair) → Member a →
+    opposite a ≡ times ((131 - number-of same-pair (λ k. times k base) 131 a) % 131) base
+opposite-multiple a m =
+    let l = number-of same-pair (λ k. times k base) 131 a in
+    let r = (131 - l) % 131 in
+    let low = log-below numbered same-pairs a m in
+    let both : plus a (times r base) ≡ null =
+    ap (λ b. plus b (times r base)) (sym (at-log numbered same-pairs a m)) ∙ sym (times-add l r base) ∙ around (l + r) ∙
+    ap (λ (k : ℕ). times k base) {x = (l + r) % 131} {y = 0} (omega arith) ∙ times-zero base in
+    sym (null-plus (opposite a) (m .0) (mod-lt _ (lit< tt))) ∙ ap (λ b. plus b (opposite a)) (sym both ∙ plus-comm a (times r base)) ∙
+    plus-assoc (times r base) a (opposite a) ∙ ap (plus (times r base)) (plus-opposite a (m .2)) ∙
+    plus-comm (times r base) null ∙ null-times r base

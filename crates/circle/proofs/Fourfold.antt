@@ -17,7 +17,7 @@ use Rattle.circle.proofs.Cyclic.{numbered}
 use Rattle.circle.proofs.Field.{field}
 
 -- with s = (1 + t²)u: (1 − t²)²u² + 4t²u² = s²
-slope-circle : (t u : ℕ) → ((1 + t * t) * u) % 523 ≡ 1 → On-circle (slope-point t u)
+pub slope-circle : (t u : ℕ) → ((1 + t * t) * u) % 523 ≡ 1 → On-circle (slope-point t u)
 slope-circle t u e =
     let s = (1 + t * t) * u in
     let v = (1 + 522 * (t * t)) * u in

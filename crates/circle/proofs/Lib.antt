@@ -4,3 +4,4 @@ pub mod Covered
 pub mod Cyclic
 pub mod Fourfold
 pub mod Field
+pub mod Lawful

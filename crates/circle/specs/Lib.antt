@@ -1,1 +1,2 @@
 pub mod Circle
+pub mod Laws

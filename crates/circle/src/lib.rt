@@ -10,6 +10,7 @@ ghost use Prim.Native.Nat.{_+_, _*_, _%_, _<_};
 ghost use Rattle.scalar.specs.Inverse.{inverse-number};
 ghost use Rattle.std.specs.Orderings.{Decides};
 ghost use Rattle.circle.specs.Circle.{plus, times, opposite, On-circle, Member, slope-point, mapped-pair};
+ghost use Rattle.circle.specs.Laws.{Circle-laws};
 use scalar::Order;
 use scalar::Scalar;
 
@@ -114,3 +115,8 @@ pub fn mapped(word: u64) -> Pair
     let norm = 1 + t as u32 * t as u32;
     slope(t, inverse(norm)).times(4)
 }
+
+// What the definitions above come to, in the words of the subject.
+pub fn laws_hold()
+    ensures { λ _. ⌜ Circle-laws ⌝ }
+{}

@@ -51,7 +51,7 @@ module _ {A : Type 0} {Member : A → Type 0} {sum : A → A → A} {at : ℕ �
   pub log-same : (a b : A) → Member a → Member b → log a ≡ log b → a ≡ b
   log-same a b m n e = sym (at-log a m) ∙ ap at e ∙ at-log b n
 
-  sum-at : (a b : A) → Member a → Member b → sum a b ≡ at ((log a + log b) % q)
+  pub sum-at : (a b : A) → Member a → Member b → sum a b ≡ at ((log a + log b) % q)
   sum-at a b m n =
       ap (λ c. sum c b) (sym (at-log a m)) ∙ ap (sum (at (log a))) (sym (at-log b n)) ∙
       numbered .sums (log a) (log b) (log-below a m) (log-below b n)
