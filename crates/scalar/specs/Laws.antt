@@ -135,3 +135,14 @@ some s p = some-by s (decLt 0 (s .value)) p
 
 pub again : {q : ℕ} (k : NonZero q) → nonzero-of (k .scalar) ≡ Some k
 again k = let f = some (k .scalar) (k .positive) in f .1 ∙ ap (λ j. Some j) (same-part (f .0) k (f .2))
+
+-- that q is a prime order is known in one way
+pub one-prime : {q : ℕ} (a b : Prime q) → a ≡ b
+one-prime a b = λ i. (le-prop (a .0) (b .0) i, λ d l h e. let same : a .1 d l h e ≡ b .1 d l h e = absurd (a .1 d l h e) in same i)
+
+pub one-order : {q : ℕ} (a b : Order q) → a ≡ b
+one-order a b = λ i. record {
+  low = le-prop (a .low) (b .low) i;
+  high = le-prop (a .high) (b .high) i;
+  prime = one-prime (a .prime) (b .prime) i;
+}

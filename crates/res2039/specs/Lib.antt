@@ -1,0 +1,4 @@
+pub mod Powers2039
+pub mod Elements
+pub mod Laws
+pub mod Kind
