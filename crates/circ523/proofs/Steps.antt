@@ -1,24 +1,12 @@
 -- What the steps with elements answer, told by pairs.
 use mathlib.Core.Path.{_≡_, refl, sym, ap, _∙_, subst}
-use mathlib.Core.Bool.{Bool, true, false}
 use mathlib.Core.List.{List, [], _∷_}
 use Prim.Native.Nat.{ℕ, _+_, _-_, _*_, _/_, _%_, _<_}
-use mathlib.Core.HLevel.{⊥-prop, Π-prop, →-prop}
-use native.Mathlib.Bridge.{le-prop}
 use native.Mathlib.Nat.{mod-eq-of-lt}
 use native.Mathlib.Omega.{arith}
 use lib.ListN.{length, getD}
-use Rattle.std.specs.Options.{okOr}
-use Rattle.std.specs.declared.option.Option.{Option}
-use Rattle.std.specs.declared.option.Option.the-variants.{Some, None}
-use Rattle.std.specs.declared.result.Result.{Result}
-use Rattle.std.specs.declared.result.Result.the-variants.{Ok, Err}
-use Rattle.faults.specs.declared.GroupFault.{GroupFault}
-use Rattle.faults.specs.declared.GroupFault.the-variants.{NoElement}
 use Rattle.numbers.proofs.Logarithms.{sum-at}
-use Rattle.numbers.specs.Prime.{Prime}
 use Rattle.scalar.specs.Modulo.{modulo}
-use Rattle.scalar.specs.declared.order.Order.{Order}
 use Rattle.scalar.specs.declared.modular.Scalar.{Scalar}
 use Rattle.circle.specs.declared.Pair.{Pair}
 use Rattle.circle.specs.Circle as circle
@@ -27,17 +15,10 @@ use Rattle.circle.proofs.Algebra.{same, times-zero}
 use Rattle.circle.proofs.Covered.{same-pairs}
 use Rattle.circle.proofs.Cyclic.{numbered, multiple-member, opposite-multiple}
 use Rattle.group.specs.Elements.{null, generator, sum, opposite, base-multiple}
-use Rattle.circ523.specs.Elements.{logarithm, multiple-of-base, code-of, element-of}
-use Rattle.circ523.specs.Laws.{same-point, decoded, encoded}
+use Rattle.circ523.specs.Elements.{logarithm, multiple-of-base, code-of}
+use Rattle.circ523.specs.Laws.{same-point}
 use Rattle.circ523.specs.Kind.{points}
 use Rattle.circ523.specs.declared.point.Point.{Point}
-
--- that a number is an order of scalars is known in one way
-prime-prop : (q : ℕ) → IsProp (Prime q)
-prime-prop q a b = λ i. (le-prop (a .0) (b .0) i, Π-prop (λ d. →-prop (→-prop (→-prop ⊥-prop))) (a .1) (b .1) i)
-
-pub same-order : (a b : Order 131) → a ≡ b
-same-order a b = λ i. record { low = le-prop (a .low) (b .low) i; high = le-prop (a .high) (b .high) i; prime = prime-prop 131 (a .prime) (b .prime) i }
 
 by-pair : (p : Point) (n : ℕ) → p .pair ≡ times (n % 131) base → p ≡ multiple-of-base n
 unfolding multiple-of-base
@@ -76,17 +57,6 @@ is-opposite p s e = by-pair s (131 - logarithm p) (e ∙ opposite-pair p)
 pub is-base-multiple : (s : Scalar 131) (p : Point) → p .pair ≡ times (s .value) base → p ≡ base-multiple points s
 unfolding base-multiple modulo
 is-base-multiple s p e = by-pair p (s .value) (e ∙ ap (λ (k : ℕ). times k base) (sym (mod-eq-of-lt (s .below))))
-
--- decoding: the element whose code it is, and nothing else
-pub accepted : (bytes : List ℕ) (p : Point) → code-of p ≡ bytes → Ok p ≡ okOr (element-of bytes) NoElement
-accepted bytes p e = sym (ap (λ b. okOr (element-of b) NoElement) (sym e) ∙ ap (λ o. okOr o NoElement) (decoded p))
-
-refused-by : (bytes : List ℕ) (o : Option Point) → element-of bytes ≡ o → ((p : Point) → code-of p ≡ bytes → ⊥) → Err NoElement ≡ okOr o NoElement
-refused-by bytes (Some p) e none = absurd (none p (encoded bytes p e))
-refused-by bytes None e none = refl
-
-pub refused : (bytes : List ℕ) → ((p : Point) → code-of p ≡ bytes → ⊥) → Err NoElement ≡ okOr (element-of bytes) NoElement
-refused bytes none = refused-by bytes (element-of bytes) refl none
 
 -- a code has four bytes
 pub other-length : (bytes : List ℕ) → (length bytes ≡ 4 → ⊥) → (p : Point) → code-of p ≡ bytes → ⊥

@@ -68,6 +68,6 @@ pub ok-told : {E : Type 0} (o : Option E) (x : E) → Ok x ≡ okOr o NoElement 
 ok-told (Some y) x e = refl
 ok-told None x e = let z : _≡_ {A = ℕ} 0 1 = cc in absurd (omega arith)
 
-pub err-told : {E : Type 0} (o : Option E) (f : GroupFault) → Err {T = E} f ≡ okOr o NoElement → group-tells f .number ≡ element-told o
+pub err-told : {E : Type 0} (o : Option E) (f : GroupFault) → _≡_ {A = Result E GroupFault} (Err f) (okOr o NoElement) → group-tells f .number ≡ element-told o
 err-told (Some y) f e = let z : _≡_ {A = ℕ} 0 1 = cc in absurd (omega arith)
 err-told None f e = let same : f ≡ NoElement = cc in ap (λ g. group-tells g .number) same
