@@ -14,6 +14,11 @@ ghost use Rattle.circle.specs.Laws.{Circle-laws};
 use scalar::Order;
 use scalar::Scalar;
 
+// The modulus, a prime, and the number that stands for -1: with it no difference is ever below zero.
+const P: u64 = 523;
+
+const MINUS_ONE: u64 = P - 1;
+
 // Two numbers modulo 523. A pair need not lie on the circle.
 #[derive(Clone, Copy, PartialEq, Eq, Debug)]
 pub struct Pair {
@@ -26,15 +31,15 @@ impl Pair {
 
     pub const GENERATOR: Pair = Pair { x: 82, y: 434 };
 
-    // The sum: 522 stands for -1, so no difference is ever below zero.
+    // (x1x2 - y1y2, x1y2 + x2y1). Products of numbers of 16 bits, and sums of two of them, fit 64 bits.
     pub fn sum(self, other: Pair) -> Pair
         ensures { λ r. ⌜ r ≡ plus self other ⌝ }
     {
         let (x1, y1) = (u64::from(self.x), u64::from(self.y));
         let (x2, y2) = (u64::from(other.x), u64::from(other.y));
         Pair {
-            x: ((x1 * x2 + 522 * (y1 * y2)) % 523) as u16,
-            y: ((x1 * y2 + x2 * y1) % 523) as u16,
+            x: ((x1 * x2 + MINUS_ONE * (y1 * y2)) % P) as u16,
+            y: ((x1 * y2 + x2 * y1) % P) as u16,
         }
     }
 
@@ -44,7 +49,7 @@ impl Pair {
     {
         Pair {
             x: self.x,
-            y: (522 * u64::from(self.y) % 523) as u16,
+            y: (MINUS_ONE * u64::from(self.y) % P) as u16,
         }
     }
 
@@ -70,7 +75,7 @@ impl Pair {
         ensures { λ r. ⌜ Decides r (On-circle self) ⌝ }
     {
         let (x, y) = (u64::from(self.x), u64::from(self.y));
-        (x * x + y * y) % 523 == 1
+        (x * x + y * y) % P == 1
     }
 
     // Whether the pair is an element. Being on the circle is not enough: of its 524 points, 131 are.
@@ -87,11 +92,11 @@ fn plane() -> Order<523> {
 }
 
 // The inverse of a number modulo 523.
-fn inverse(n: u32) -> u16
+fn inverse(n: u64) -> u16
     ensures { λ r. ⌜ r ≡ inverse-number 523 (n % 523) ⌝ }
 {
     let s = Scalar {
-        value: (n % 523) as u16,
+        value: (n % P) as u16,
     };
     plane().inverse(s).value
 }
@@ -102,8 +107,8 @@ fn slope(t: u16, u: u16) -> Pair
 {
     let (t, u) = (u64::from(t), u64::from(u));
     Pair {
-        x: ((1 + 522 * (t * t)) % 523 * u % 523) as u16,
-        y: (2 * t * u % 523) as u16,
+        x: ((1 + MINUS_ONE * (t * t)) % P * u % P) as u16,
+        y: (2 * t * u % P) as u16,
     }
 }
 
@@ -111,9 +116,8 @@ fn slope(t: u16, u: u16) -> Pair
 pub fn mapped(word: u64) -> Pair
     ensures { λ r. ⌜ r ≡ mapped-pair word ⌝ }
 {
-    let t = (word % 523) as u16;
-    let norm = 1 + t as u32 * t as u32;
-    slope(t, inverse(norm)).times(4)
+    let t = word % P;
+    slope(t as u16, inverse(1 + t * t)).times(4)
 }
 
 // What the definitions above come to, in the words of the subject.
