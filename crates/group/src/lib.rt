@@ -17,7 +17,10 @@ ghost use Rattle.numbers.specs.Bytes.{code-bytes};
 ghost use Rattle.scalar.specs.Scalars.{added, subtracted, multiplied, bit-at, scalar-code, scalar-of, reduced};
 ghost use Rattle.group.specs.Model.{Model};
 ghost use Rattle.group.specs.Elements.{null, generator, sum, opposite, base-multiple, multiple};
+ghost use Rattle.group.specs.Weighted.{weighted-sum};
+ghost use Rattle.group.specs.Theorems.{Lawful, Unblinds, One-scalar, Weighs};
 use faults::GroupFault;
+use faults::WireFault;
 use numbers::Code;
 
 // A kind of group. The type itself is the type of its elements: every element that exists lies in the
@@ -125,3 +128,57 @@ pub fn multiple<G: Group>(s: G::Scalar, p: G) -> G
     }
     r
 }
+
+// Why a weighted sum is refused.
+#[derive(Clone, Copy)]
+pub enum SumFault {
+    // the bytes are not as long as one code for each scalar
+    Wire(WireFault),
+    // the first item, counted from 1, whose bytes are no code
+    Item(usize, GroupFault),
+}
+
+// The sum of the elements whose codes stand in a row, each times its scalar.
+pub fn weighted_sum<G: Group>(codes: &[u8], scalars: &[G::Scalar]) -> Result<G, SumFault>
+    ensures { λ r. ⌜ r ≡ weighted-sum model (now (codes .entry)) (now (scalars .entry)) ⌝ }
+{
+    let width = G::element_width();
+    if codes.len() / width != scalars.len() || codes.len() % width != 0 {
+        return Err(SumFault::Wire(WireFault::WrongLength));
+    }
+    let mut total = G::null();
+    let mut at: usize = 0;
+    for i in 0..scalars.len() {
+        let end = at + width;
+        match G::decode(&codes[at..end]) {
+            Ok(p) => {
+                total = total.sum(multiple(scalars[i], p));
+            }
+            Err(fault) => {
+                return Err(SumFault::Item(i + 1, fault));
+            }
+        }
+        at = end;
+    }
+    Ok(total)
+}
+
+// The elements of every kind are a group, and its scalars multiply them.
+pub fn laws_hold<G: Group>()
+    ensures { λ _. ⌜ Lawful model ⌝ }
+{}
+
+// What a blind takes away, its inverse gives back.
+pub fn unblinding_holds<G: Group>()
+    ensures { λ _. ⌜ Unblinds model ⌝ }
+{}
+
+// A blinded element hides its input: some blind takes every input to it, and only one.
+pub fn one_scalar_holds<G: Group>()
+    ensures { λ _. ⌜ One-scalar model ⌝ }
+{}
+
+// What a weighted sum over codes is, by its elements.
+pub fn weighted_sums_hold<G: Group>()
+    ensures { λ _. ⌜ Weighs model ⌝ }
+{}

@@ -1,17 +1,17 @@
 -- Powers modulo p, and the logarithm in a cycle of powers.
-use mathlib.Core.Path.{_≡_, refl, sym, ap, _∙_, subst}
-use mathlib.Core.Bool.{Bool, true, false, cond}
-use mathlib.Core.Logic.{_⊎_, ⊎-elim}
+use mathlib.Core.Path.{_≡_, sym, ap, _∙_, subst}
+use mathlib.Core.Bool.{true}
 use Prim.Native.Nat.{ℕ, zero, suc, _+_, _-_, _*_, _/_, _%_, _^_, _<_, _≤_}
 use native.Mathlib.Omega.{arith}
 use native.Mathlib.Decide.{decLt}
 use borrow.Author.Tests.{eq-eqb}
-use native.Mathlib.Nat.{eq-or-lt-of-le, le-of-suc-le-suc, not-suc-le-zero, mul-zero, mul-suc, mul-one, one-mul, pow-zero, pow-suc, mod-add-div, mod-eq-of-lt, mod-lt, mul-comm, mul-assoc, mul-mul-mul-comm, pow-succ'}
+use Rattle.std.proofs.shelf.Tests.{eqb-true, and-parts}
+use native.Mathlib.Nat.{le-of-suc-le-suc, not-suc-le-zero, mul-zero, mul-suc, mul-one, one-mul, pow-zero, pow-suc, mod-add-div, mod-eq-of-lt, mod-lt, mul-comm, mul-assoc, mul-mul-mul-comm, pow-succ'}
 use lib.Pow.{pow-add}
-use lib.ListN.{getD}
+use lib.ListN.{length, getD}
 use mathlib.Core.List.{List, [], _∷_}
-use lib.Dec.{T, eqb, eqb→eq, eqb-refl}
-use Rattle.numbers.specs.Cycle.{Member, exponent, Cycle}
+use lib.Dec.{T, eqb, eqb→eq}
+use Rattle.numbers.specs.Cycle.{Member, exponent, Cycle, stepwise, are-powers}
 use Rattle.numbers.proofs.Sought.{found}
 use Rattle.numbers.proofs.Mod.{mod-mul-left, mod-mul-right, half-odd, half-even}
 
@@ -142,15 +142,21 @@ module _ {p g q : ℕ} (cycle : Cycle p g q) where
       let positive : 0 < q = omega (arith, log-below a m) in
       ap (λ (x : ℕ). exponent p g q x) (raised a n m) ∙ log-of ((exponent p g q a * n) % q) (mod-lt _ positive)
 
--- n numbers, each g times the one before, modulo p
-abbrev pub row : ℕ → ℕ → ℕ → ℕ → List ℕ
-row p g zero x = []
-row p g (suc n) x = x ∷ row p g n ((x * g) % p)
-
-pub row-at : (p g n x k : ℕ) → k < n → x < p → getD (row p g n x) k 0 ≡ (x * g ^ k) % p
-row-at p g zero x k h l = absurd (not-suc-le-zero h)
-row-at p g (suc n) x zero h l = sym (ap (λ (y : ℕ). (x * y) % p) (pow-zero g) ∙ ap (λ (y : ℕ). y % p) (mul-one x) ∙ mod-eq-of-lt l)
-row-at p g (suc n) x (suc k) h l =
+-- The rule of a table of powers, carried to each exponent.
+step-at : (p g x : ℕ) (xs : List ℕ) (k : ℕ) → stepwise p g x xs ≡ true → x < p → k ≤ length xs → getD (x ∷ xs) k 0 ≡ (x * g ^ k) % p
+step-at p g x xs zero e l h = sym (ap (λ (y : ℕ). (x * y) % p) (pow-zero g) ∙ ap (λ (y : ℕ). y % p) (mul-one x) ∙ mod-eq-of-lt l)
+step-at p g x [] (suc k) e l h = absurd (not-suc-le-zero h)
+step-at p g x (y ∷ ys) (suc k) e l h =
     let positive : 0 < p = omega arith in
-    row-at p g n ((x * g) % p) k (le-of-suc-le-suc h) (mod-lt (x * g) positive) ∙ mod-mul-left (x * g) (g ^ k) p ∙
-    ap (λ (y : ℕ). y % p) (mul-assoc x g (g ^ k) ∙ ap (λ (y : ℕ). x * y) (sym (pow-succ' g k)))
+    let both = and-parts (eqb y (x * g % p)) (stepwise p g y ys) e in
+    let next : y ≡ x * g % p = eqb-true y (x * g % p) (both .0) in
+    let small : y < p = subst (λ (z : ℕ). z < p) (sym next) (mod-lt (x * g) positive) in
+    step-at p g y ys k (both .1) small (le-of-suc-le-suc h) ∙ ap (λ (z : ℕ). (z * g ^ k) % p) next ∙ mod-mul-left (x * g) (g ^ k) p ∙
+    ap (λ (z : ℕ). z % p) (mul-assoc x g (g ^ k) ∙ ap (λ (z : ℕ). x * z) (sym (pow-succ' g k)))
+
+pub power-at : (p g : ℕ) (xs : List ℕ) (k : ℕ) → are-powers p g xs ≡ true → 1 < p → k < length xs → getD xs k 0 ≡ g ^ k % p
+power-at p g [] k e l h = absurd (not-suc-le-zero h)
+power-at p g (x ∷ xs) k e l h =
+    let both = and-parts (eqb x 1) (stepwise p g x xs) e in
+    let one = eqb-true x 1 (both .0) in
+    step-at p g x xs k (both .1) (omega arith) (le-of-suc-le-suc h) ∙ ap (λ (z : ℕ). (z * g ^ k) % p) one ∙ ap (λ (z : ℕ). z % p) (one-mul (g ^ k))
