@@ -8,7 +8,7 @@ use Rattle.numbers.specs.Bytes.{word}
 use Rattle.circle.specs.declared.Pair.{Pair}
 use Rattle.circle.specs.Circle as circle
 use Rattle.group.specs.Elements.{null, generator, sum, opposite}
-use Rattle.circ523.specs.Elements.{pair-code, element-of, multiple-of-base, mapped-point}
+use Rattle.circ523.specs.Elements.{pair-code}
 use Rattle.circ523.specs.Kind.{points}
 use Rattle.circ523.specs.declared.point.Point.{Point}
 
@@ -32,11 +32,13 @@ pub data Row : Type 0 where
   outside : Pair → Row
   maps : ℕ → Pair → Row
 
+-- what a row says
 abbrev pub Holds : Row → Type 0
-Holds (multiple n a) = multiple-of-base n .pair ≡ a
-Holds (outside a) = circle.On-circle a × (element-of (pair-code a) ≡ None)
-Holds (maps n a) = (bytes : List ℕ) → word bytes ≡ n → mapped-point bytes .pair ≡ a
+Holds (multiple n a) = points .at-log n .pair ≡ a
+Holds (outside a) = circle.On-circle a × (points .element (pair-code a) ≡ None)
+Holds (maps n a) = (bytes : List ℕ) → word bytes ≡ n → points .map bytes .pair ≡ a
 
+-- the table
 abbrev pub worked : List Row
 worked =
     multiple 2 (at 372 48) ∷ multiple 130 (at 82 89) ∷

@@ -12,10 +12,7 @@ use Rattle.std.specs.declared.option.Option.the-variants.{Some, None}
 use Rattle.numbers.specs.Sought.{sought}
 use Rattle.numbers.specs.Numbered.{coded-by}
 use Rattle.numbers.proofs.Sought.{found}
-
-true-of : (b : Bool) → T b → b ≡ true
-true-of true t = refl
-true-of false t = absurd t
+use Rattle.numbers.proofs.Logarithms.{true-from}
 
 chosen : {A : Type 0} (b : Bool) (a x : A) → cond b (Some a) None ≡ Some x → (b ≡ true) × (a ≡ x)
 chosen true a x e = (refl, cc)
@@ -36,5 +33,5 @@ module _ {A : Type 0} (code : A → List ℕ) (at : ℕ → A) (q : ℕ) where
   found-by-code apart x l h e =
       let test = λ (k : ℕ). sameBytes (code (at k)) (code x) in
       let k = sought test q in
-      let passes = true-of (test k) (found test l q h (subst T (sym (sameBytes-decides (code (at l)) (code x) .1 (ap code e))) tt) .1) in
+      let passes = true-from (test k) (found test l q h (subst T (sym (sameBytes-decides (code (at l)) (code x) .1 (ap code e))) tt) .1) in
       ap (λ b. cond b (Some (at k)) None) passes ∙ ap (λ y. Some y) (apart (at k) x (sameBytes-decides (code (at k)) (code x) .0 passes))

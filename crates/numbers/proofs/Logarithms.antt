@@ -1,6 +1,6 @@
 -- The laws of logarithms, drawn from a numbering of a group's members.
 use mathlib.Core.Path.{_≡_, refl, sym, ap, _∙_, subst}
-use mathlib.Core.Bool.{Bool}
+use mathlib.Core.Bool.{Bool, true, false}
 use Prim.Native.Nat.{ℕ, zero, suc, _+_, _-_, _*_, _%_, _<_}
 use native.Mathlib.Nat.{mod-lt, mod-eq-of-lt, mod-self, sub-zero, add-mul-mod-self-left}
 use native.Mathlib.Decide.{decLt}
@@ -8,6 +8,10 @@ use native.Mathlib.Omega.{arith}
 use lib.Dec.{T}
 use Rattle.numbers.specs.Numbered.{Numbered, Same, number-of}
 use Rattle.numbers.proofs.Sought.{found}
+
+pub true-from : (b : Bool) → T b → b ≡ true
+true-from true t = refl
+true-from false t = absurd t
 
 -- two numbers below q whose sum is a multiple of q
 balanced-by : (q l m : ℕ) → Dec (l + m < q) → Dec (0 < l) → l < q → m < q → (l + m) % q ≡ 0 → m ≡ (q - l) % q
@@ -34,8 +38,8 @@ module _ {A : Type 0} {Member : A → Type 0} {sum : A → A → A} {at : ℕ �
   sought-out : (a : A) → Member a → (log a < q) × (at (log a) ≡ a)
   sought-out a m =
       let l = numbered .all a m in
-      let f = found (λ k. same (at k) a) (l .0) q (l .1) (subst (λ b. T (same b a)) (sym (l .2)) (equal .itself a)) in
-      (f .0, equal .tells (at (log a)) a (f .1))
+      let f = found (λ k. same (at k) a) (l .0) q (l .1) (subst T (sym (equal (at (l .0)) a .1 (l .2))) tt) in
+      (f .0, equal (at (log a)) a .0 (true-from (same (at (log a)) a) (f .1)))
 
   pub log-below : (a : A) → Member a → log a < q
   log-below a m = sought-out a m .0

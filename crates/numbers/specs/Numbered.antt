@@ -3,7 +3,7 @@ use mathlib.Core.Path.{_≡_}
 use mathlib.Core.Bool.{Bool, cond}
 use mathlib.Core.List.{List}
 use Prim.Native.Nat.{ℕ, _+_, _%_, _<_}
-use lib.Dec.{T}
+use Rattle.std.specs.Orderings.{Decides}
 use Rattle.std.specs.declared.option.Option.{Option}
 use Rattle.std.specs.declared.option.Option.the-variants.{Some, None}
 use Rattle.std.specs.shelf.Text.{sameBytes}
@@ -21,10 +21,9 @@ pub record Numbered {A : Type 0} (Member : A → Type 0) (sum : A → A → A) (
   -- a sum adds the numbers
   pub sums : (j k : ℕ) → j < q → k < q → sum (at j) (at k) ≡ at ((j + k) % q)
 
--- A test that two members are the same.
-pub record Same {A : Type 0} (same : A → A → Bool) : Type 0 where
-  pub tells : (a b : A) → T (same a b) → a ≡ b
-  pub itself : (a : A) → T (same a a)
+-- a test of whether two members are the same
+abbrev pub Same : {A : Type 0} → (A → A → Bool) → Type 0
+Same {A} same = (a b : A) → Decides (same a b) (a ≡ b)
 
 -- the number of a member
 abbrev pub number-of : {A : Type 0} → (A → A → Bool) → (ℕ → A) → ℕ → A → ℕ
