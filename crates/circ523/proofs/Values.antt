@@ -1,14 +1,12 @@
 -- The theorems on circ523.
-use mathlib.Core.Path.{_≡_, refl, sym, ap, _∙_}
-use Prim.Native.Nat.{ℕ}
+use mathlib.Core.Path.{refl, sym, ap}
 use Rattle.numbers.specs.Sought.{sought}
 use Rattle.numbers.specs.Numbered.{coded-by}
 use Rattle.scalar.specs.Inverse.{inverse-number}
 use Rattle.circle.specs.Circle.{times, mapped-pair}
 use Rattle.circle.specs.Circle as circle
 use Rattle.circle.proofs.Cyclic.{multiple-member}
-use Rattle.group.specs.Elements.{null, generator, sum, opposite}
-use Rattle.circ523.specs.declared.point.Point.{Point}
+use Rattle.group.specs.Elements.{null, opposite}
 use Rattle.circ523.specs.Elements.{multiple-of-base, code-of, element-of, mapped-point}
 use Rattle.circ523.specs.Worked.{Circle-group, Worked}
 use Rattle.circ523.proofs.Steps.{is-null, is-generator, is-sum, is-opposite, sum-member, opposite-member}

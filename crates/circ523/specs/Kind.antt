@@ -1,5 +1,4 @@
 -- What circ523 means.
-use Prim.Native.Nat.{ℕ}
 use lib.Chars.{codes}
 use lib.Dec.{lit<, lit≤}
 use Rattle.scalar.specs.Modulo.{modulo}

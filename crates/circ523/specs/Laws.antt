@@ -1,9 +1,9 @@
 -- That circ523 keeps the laws of a group.
-use mathlib.Core.Path.{_≡_, refl, sym, ap, _∙_}
+use mathlib.Core.Path.{_≡_, refl, ap, _∙_}
 use mathlib.Core.HLevel.{isProp→PathP}
-use mathlib.Core.List.{List, [], _∷_}
+use mathlib.Core.List.{List}
 use native.Mathlib.Bridge.{le-prop}
-use native.Mathlib.Nat.{ℕ-set, mod-lt, mod-eq-of-lt, mod-add-div}
+use native.Mathlib.Nat.{ℕ-set, mod-lt, mod-eq-of-lt}
 use native.Mathlib.Omega.{arith}
 use Prim.Native.Nat.{ℕ, _/_, _%_, _<_}
 use lib.Dec.{lit<}
@@ -14,7 +14,7 @@ use Rattle.numbers.proofs.Logarithms.{log-below, at-log, log-at, log-same}
 use Rattle.numbers.proofs.Codes.{only-codes, found-by-code}
 use Rattle.scalar.specs.Modulo.{modulo}
 use Rattle.circle.specs.declared.Pair.{Pair}
-use Rattle.circle.specs.Circle.{times, base, same-pair, Member}
+use Rattle.circle.specs.Circle.{times, base, Member}
 use Rattle.circle.proofs.Algebra.{same}
 use Rattle.circle.proofs.Covered.{same-pairs}
 use Rattle.circle.proofs.Cyclic.{numbered}

@@ -6,7 +6,7 @@ use native.Mathlib.Nat.{mod-add-div, add-mul-mod-self-left, mod-lt, mod-eq-of-lt
 use lib.Dec.{lit<}
 use Rattle.numbers.proofs.Mod.{mod-mul-left}
 use Rattle.circle.specs.declared.Pair.{Pair}
-use Rattle.circle.specs.Circle.{plus, null, times, opposite, On-circle, Member}
+use Rattle.circle.specs.Circle.{plus, null, times, opposite, On-circle}
 
 -- Two numbers that differ by multiples of 523 leave the same remainder.
 pub alike : (a b m n : ℕ) → a + 523 * m ≡ b + 523 * n → a % 523 ≡ b % 523

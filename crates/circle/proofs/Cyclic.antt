@@ -7,7 +7,7 @@ use native.Mathlib.Decide.{decLt}
 use native.Mathlib.Omega.{arith}
 use lib.Dec.{T, T-not, lit<}
 use Rattle.circle.specs.declared.Pair.{Pair}
-use Rattle.circle.specs.Circle.{plus, opposite, null, base, times, same-pair, On-circle, Member}
+use Rattle.circle.specs.Circle.{plus, opposite, null, base, times, same-pair, Member}
 use Rattle.numbers.specs.Numbered.{Numbered, number-of}
 use Rattle.numbers.proofs.Logarithms.{log-below, at-log}
 use Rattle.numbers.proofs.Table.{below, below-at}

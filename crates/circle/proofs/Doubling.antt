@@ -1,6 +1,6 @@
 -- One turn of doubling: of n·d, half of n is left, and the summand is twice as much.
-use mathlib.Core.Path.{_≡_, refl, sym, ap, _∙_}
-use Prim.Native.Nat.{ℕ, suc, _+_, _*_, _/_, _%_, _<_}
+use mathlib.Core.Path.{_≡_, sym, ap, _∙_}
+use Prim.Native.Nat.{ℕ, suc, _+_, _/_, _%_, _<_}
 use native.Mathlib.Omega.{arith}
 use Rattle.circle.specs.declared.Pair.{Pair}
 use Rattle.circle.specs.Circle.{plus, null, times}

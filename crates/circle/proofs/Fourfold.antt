@@ -1,12 +1,12 @@
 -- What the map answers is a member.
 use mathlib.Core.Path.{_≡_, refl, sym, ap, _∙_, subst}
 use mathlib.Core.Bool.{Bool, not}
-use Prim.Native.Nat.{ℕ, suc, _+_, _*_, _/_, _%_, _<_}
+use Prim.Native.Nat.{ℕ, _+_, _*_, _%_, _<_}
 use native.Mathlib.Nat.{mod-lt}
 use native.Mathlib.Omega.{arith}
 use lib.Dec.{T, eqb, T-not, lit<}
 use Rattle.circle.specs.declared.Pair.{Pair}
-use Rattle.circle.specs.Circle.{plus, null, times, base, slope-point, mapped-pair, On-circle, Member}
+use Rattle.circle.specs.Circle.{times, slope-point, mapped-pair, On-circle, Member}
 use Rattle.scalar.specs.Inverse.{inverse-number}
 use Rattle.scalar.specs.Laws.{inverse-found}
 use Rattle.numbers.proofs.Mod.{mod-mul-left}

@@ -1,8 +1,8 @@
 -- The laws of the circle, gathered.
-use Prim.Native.Nat.{ℕ, _+_, _*_, _%_}
+use Prim.Native.Nat.{_+_, _*_, _%_}
 use native.Mathlib.Nat.{mod-lt, mod-add-mod}
 use native.Mathlib.Omega.{arith}
-use mathlib.Core.Path.{_≡_, _∙_}
+use mathlib.Core.Path.{_∙_}
 use lib.Dec.{lit<}
 use Rattle.scalar.specs.Laws.{inverse-found}
 use Rattle.circle.specs.Laws.{Circle-laws}

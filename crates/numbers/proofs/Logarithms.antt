@@ -1,7 +1,7 @@
 -- The laws of logarithms, drawn from a numbering of a group's members.
 use mathlib.Core.Path.{_≡_, refl, sym, ap, _∙_, subst}
 use mathlib.Core.Bool.{Bool, true, false}
-use Prim.Native.Nat.{ℕ, zero, suc, _+_, _-_, _*_, _%_, _<_}
+use Prim.Native.Nat.{ℕ, _+_, _-_, _*_, _%_, _<_}
 use native.Mathlib.Nat.{mod-lt, mod-eq-of-lt, mod-self, sub-zero, add-mul-mod-self-left}
 use native.Mathlib.Decide.{decLt}
 use native.Mathlib.Omega.{arith}

@@ -1,6 +1,5 @@
-use mathlib.Core.Path.{_≡_, _∙_, ap}
-use Prim.Native.Nat.{ℕ, _%_, _+_, _*_}
-use Rattle.scalar.specs.Inverse.{inverse-number}
+use mathlib.Core.Path.{_∙_, ap}
+use Prim.Native.Nat.{_%_}
 use Rattle.circle.specs.Circle.{times, slope-point, mapped-pair}
 use Rattle.circle.proofs.mapped.Needs as need
 

@@ -1,5 +1,4 @@
-use mathlib.Core.Path.{_≡_, sym, ap, _∙_}
-use Rattle.faults.specs.Numbers.{group-tells}
+use mathlib.Core.Path.{sym, ap, _∙_}
 use Rattle.host.proofs.Meaning.{short, whole, meant, ok-told, err-told}
 use Rattle.host.proofs.told.Needs as need
 
