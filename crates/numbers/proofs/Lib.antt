@@ -6,3 +6,4 @@ pub mod Powers
 pub mod Bytes
 pub mod Logarithms
 pub mod Codes
+pub mod Tabled
