@@ -4,6 +4,11 @@
 // They stand in a crate of their own, since a crate with tests is proved a second time for them.
 #[cfg(test)]
 mod tests {
+    use circ523::Point;
+    use circ523::PointGroup;
+    use circle::Pair;
+    use circle::PairDebug;
+    use circle::PairPartialEq;
     use group::Group;
     use group::SumFault;
     use group::multiple;
@@ -51,6 +56,24 @@ mod tests {
         match weighted_sum::<ResidueGroup>(&[0, 64, 0, 0], &weights) {
             Err(SumFault::Item(item, _)) => check_eq(item, 2),
             _ => Err(Fail::new("0 is no element")),
+        }
+    }
+
+    // 2 G = (372, 48), the word 2 maps to G, and (0, 1) is on the circle and no element.
+    #[test]
+    fn points_of_the_circle_are_told_apart() -> Result<(), Fail> {
+        let Ok(two) = PointGroup::decode_scalar(&[2]) else {
+            return Err(Fail::new("2 is a scalar"));
+        };
+        let double: Point = PointGroup::base_multiple(two);
+        check_eq(double.pair, Pair { x: 372, y: 48 })?;
+        let mut bytes = [0; 32];
+        bytes[7] = 2;
+        let mapped: Point = PointGroup::map(&bytes);
+        check_eq(mapped.pair, Pair::GENERATOR)?;
+        match PointGroup::decode(&[0, 0, 0, 1]) {
+            Err(_) => Ok(()),
+            Ok(_) => Err(Fail::new("the equation alone is not membership")),
         }
     }
 }
