@@ -21,9 +21,11 @@ use Rattle.group.specs.Model.{Model, Bytes}
 use Rattle.group.specs.Weighted.{put, led, elements}
 use Rattle.group.specs.Theorems.{row}
 use Rattle.group.proofs.Weighing.{row-length, elements-row, length-quotient}
-use Rattle.messages.specs.Messages.{Batch, Answers, batch-of, answers-of, read-request, read-reply, request-bytes, reply-bytes, written-request, written-reply, place, code-in, item-at}
+use Rattle.messages.specs.Messages.{Batch, Answers, batch-of, answers-of, read-request, read-reply, request-bytes, reply-bytes, written-request, written-reply, request-length, reply-length, header-of, split-reply, place, code-in, item-at}
 use Rattle.messages.specs.Laws.{batch-from, request-from, request-batch, answers-from, reply-from, reply-batch, Sized, RoundTrip, OneEncoding, Placed}
-use Rattle.messages.proofs.Trips.{request-again, request-told, request-only, reply-again, reply-told, reply-only}
+use Rattle.messages.proofs.Reading.{split-whole}
+use Rattle.messages.proofs.Writing.{request-bytes-length, reply-bytes-length}
+use Rattle.messages.proofs.Trips.{header-again, request-again, request-told, request-only, reply-again, reply-told, reply-only}
 
 none-some : {X Y : Type 0} {x : X} → _≡_ {A = Option X} None (Some x) → Y
 none-some e = let z : _≡_ {A = ℕ} 0 1 = cc in absurd (omega arith)
@@ -82,10 +84,19 @@ module _ {E S K : Type 0} (m : Model E S K) where
   from-request (Ok b) e bs h = let parts = from-batch (b .epoch) (elements m 1 (b .count) (b .items)) e bs h in (b, refl, parts .0, parts .1)
   from-request (Err f) e bs h = none-some h
 
+  -- a request of elements, as its reader and its length tell it
+  pub written-request-read : (epoch : ℕ) (bs : List E) → Sized epoch bs → read-request m (written-request m epoch bs) ≡ Ok (batch-of m epoch bs)
+  unfolding written-request
+  written-request-read epoch bs z = request-again m (batch-of m epoch bs) (z .0) (z .1) (z .2) (row-length m bs)
+
+  pub written-request-length : (epoch : ℕ) (bs : List E) → length (written-request m epoch bs) ≡ request-length m (length bs)
+  unfolding written-request
+  written-request-length epoch bs = request-bytes-length m (batch-of m epoch bs) (row-length m bs)
+
   request-trip : (epoch : ℕ) (bs : List E) → Sized epoch bs → request-batch m (written-request m epoch bs) ≡ Some (epoch, bs)
-  unfolding request-batch written-request
+  unfolding request-batch
   request-trip epoch bs z =
-      ap (request-from m) (request-again m (batch-of m epoch bs) (z .0) (z .1) (z .2) (row-length m bs)) ∙ ap (batch-from m epoch) (elements-row m 1 bs)
+      ap (request-from m) (written-request-read epoch bs z) ∙ ap (batch-from m epoch) (elements-row m 1 bs)
 
   -- the batch that a request is read as
   request-parts : (bytes : List ℕ) (epoch : ℕ) (bs : List E) → request-batch m bytes ≡ Some (epoch, bs) → read-request m bytes ≡ Ok (batch-of m epoch bs)
@@ -125,10 +136,46 @@ module _ {E S K : Type 0} (m : Model E S K) where
       (a, refl, parts .0, parts .1, parts .2, parts .3)
   from-reply (Err f) e es c s h = none-some h
 
+  -- a reply of elements, as its readers and its length tell it
+  pub written-reply-read : (epoch : ℕ) (es : List E) (c s : S) → Sized epoch es → read-reply m (written-reply m epoch es c s) ≡ Ok (answers-of m epoch es c s)
+  unfolding written-reply
+  written-reply-read epoch es c s z =
+      reply-again m (answers-of m epoch es c s) (z .0) (z .1) (z .2) (row-length m es) (code-length (m .scalars) c) (code-length (m .scalars) s)
+
+  pub written-reply-length : (epoch : ℕ) (es : List E) (c s : S) → length (written-reply m epoch es c s) ≡ reply-length m (length es)
+  unfolding written-reply
+  written-reply-length epoch es c s =
+      reply-bytes-length m (answers-of m epoch es c s) (row-length m es) (code-length (m .scalars) c) (code-length (m .scalars) s)
+
+  pub written-reply-header : (epoch : ℕ) (es : List E) (c s : S) → epoch < 65536 →
+      header-of (written-reply m epoch es c s) ≡
+      Ok (record { kind = m .kind; epoch = epoch; count = length es }, row m es ++ (scalar-code (m .scalars) c ++ scalar-code (m .scalars) s))
+  unfolding written-reply reply-bytes
+  written-reply-header epoch es c s h = header-again (m .kind) epoch (length es) (row m es ++ (scalar-code (m .scalars) c ++ scalar-code (m .scalars) s)) (m .kind-fits) h
+
+  pub written-reply-split : (es : List E) (c s : S) →
+      split-reply m (length es) (row m es ++ (scalar-code (m .scalars) c ++ scalar-code (m .scalars) s)) ≡ Ok (row m es, scalar-code (m .scalars) c, scalar-code (m .scalars) s)
+  written-reply-split es c s =
+      let n = length es in
+      let w = m .element-width in
+      let cs = scalar-code (m .scalars) c in
+      let ss = scalar-code (m .scalars) s in
+      let rest = row m es ++ (cs ++ ss) in
+      let wide = row-length m es in
+      let ns = m .scalars .width in
+      let long : length rest ≡ n * w + 2 * ns =
+      length-append (row m es) (cs ++ ss) ∙ omega (arith, wide, length-append cs ss, code-length (m .scalars) c, code-length (m .scalars) s) in
+      let later : drop (n * w) rest ≡ cs ++ ss = drop-at (row m es) (cs ++ ss) (n * w) wide in
+      split-whole m n rest long ∙
+      ap (λ xs. Ok (xs, take ns (drop (n * w) rest), drop ns (drop (n * w) rest))) (take-at (row m es) (cs ++ ss) (n * w) wide) ∙
+      ap (λ xs. Ok (row m es, take ns xs, drop ns xs)) later ∙
+      ap (λ xs. Ok (row m es, xs, drop ns (cs ++ ss))) (take-at cs ss ns (code-length (m .scalars) c)) ∙
+      ap (λ xs. Ok (row m es, cs, xs)) (drop-at cs ss ns (code-length (m .scalars) c))
+
   reply-trip : (epoch : ℕ) (es : List E) (c s : S) → Sized epoch es → reply-batch m (written-reply m epoch es c s) ≡ Some (epoch, es, c, s)
-  unfolding reply-batch written-reply
+  unfolding reply-batch
   reply-trip epoch es c s z =
-      ap (reply-from m) (reply-again m (answers-of m epoch es c s) (z .0) (z .1) (z .2) (row-length m es) (code-length (m .scalars) c) (code-length (m .scalars) s)) ∙
+      ap (reply-from m) (written-reply-read epoch es c s z) ∙
       ap (λ r. answers-from m epoch r (scalar-of (m .scalars) (scalar-code (m .scalars) c)) (scalar-of (m .scalars) (scalar-code (m .scalars) s))) (elements-row m 1 es) ∙
       ap (λ o. answers-from m epoch (Ok es) o (scalar-of (m .scalars) (scalar-code (m .scalars) s))) (code-read (m .scalars) c) ∙
       ap (λ o. answers-from m epoch (Ok es) (Some c) o) (code-read (m .scalars) s)

@@ -18,10 +18,10 @@ use Rattle.faults.specs.declared.WireFault.the-variants.{WrongLength}
 use Rattle.numbers.specs.Bytes.{two-bytes}
 use Rattle.group.specs.Model.{Model, Bytes}
 use Rattle.messages.specs.Answers.{ruled}
-use Rattle.messages.specs.Messages.{Batch, Answers, Parts, kind-in, epoch-in, count-in, front-checks, place, request-length, reply-length, head-bytes, request-bytes, reply-bytes, read-request, read-reply, token-in, token-bytes, token-input-bytes, read-token}
+use Rattle.messages.specs.Messages.{Batch, Answers, Parts, kind-in, epoch-in, count-in, header-of, front-checks, place, request-length, reply-length, head-bytes, request-bytes, reply-bytes, read-request, read-reply}
 use Rattle.messages.proofs.Ruled.{Passes, passed, passes, equal-passes, passed-equal, same-answer}
-use Rattle.messages.proofs.Reading.{counted, counts, token-whole}
-use Rattle.messages.proofs.Writing.{high-byte, request-bytes-length, reply-bytes-length}
+use Rattle.messages.proofs.Reading.{header-whole, counted, counts}
+use Rattle.messages.proofs.Writing.{high-byte}
 
 -- a number and its two bytes
 pub two-read : (n : ℕ) → n < 65536 → n / 256 % 256 * 256 + n % 256 ≡ n
@@ -31,6 +31,15 @@ pub two-written : (a b : ℕ) → a < 256 → b < 256 → two-bytes (a * 256 + b
 two-written a b ha hb =
     ap (λ (x : ℕ). x % 256 ∷ (a * 256 + b) % 256 ∷ []) (div-mul-add a 256 b hb) ∙ ap (λ (x : ℕ). x ∷ (a * 256 + b) % 256 ∷ []) (mod-eq-of-lt ha) ∙
     ap (λ (x : ℕ). a ∷ x ∷ []) (mod-mul-add a 256 b hb)
+
+-- a head that was written is read
+pub header-again : (kind epoch n : ℕ) (rest : List ℕ) → kind < 65536 → epoch < 65536 →
+    header-of (head-bytes kind epoch n ++ rest) ≡ Ok (record { kind = kind; epoch = epoch; count = n }, rest)
+unfolding head-bytes
+header-again kind epoch n rest k e =
+    let bytes = two-bytes kind ++ (two-bytes epoch ++ (n ∷ rest)) in
+    header-whole bytes (omega arith) ∙ ap (λ (x : ℕ). Ok (record { kind = x; epoch = epoch-in bytes; count = n }, rest)) (two-read kind k) ∙
+    ap (λ (x : ℕ). Ok (record { kind = kind; epoch = x; count = n }, rest)) (two-read epoch e)
 
 -- bytes are their head and the rest
 pub headed : (bytes : List ℕ) → Bytes bytes → 5 ≤ length bytes → bytes ≡ head-bytes (kind-in bytes) (epoch-in bytes) (count-in bytes) ++ drop 5 bytes

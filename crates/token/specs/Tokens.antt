@@ -5,8 +5,7 @@ use mathlib.Core.List.{List, [], _∷_}
 use Prim.Native.Nat.{ℕ, _≤_}
 use lib.Dec.{eqb, ltb}
 use lib.ListN.{length, take}
-use Rattle.std.specs.declared.option.Option.{Option}
-use Rattle.std.specs.declared.option.Option.the-variants.{Some, None}
+use Rattle.std.specs.Options.{okOr}
 use Rattle.std.specs.declared.result.Result.{Result}
 use Rattle.std.specs.declared.result.Result.the-variants.{Ok, Err}
 use Rattle.faults.specs.declared.WireFault.{WireFault}
@@ -34,24 +33,12 @@ module _ {E S K : Type 0} (m : Model E S K) where
   is-null p = eqb (m .log p) 0
 
   -- an element that is not the null, of its code
-  abbrev pub not-null : Option E → Result E GroupFault
-  not-null None = Err NoElement
-  not-null (Some p) = ruled ((is-null p, NullElement) ∷ []) (Ok p)
-
   unfoldable pub element-of : List ℕ → Result E GroupFault
-  element-of code = not-null (m .element code)
+  element-of code = then (okOr (m .element code) NoElement) (λ p. ruled ((is-null p, NullElement) ∷ []) (Ok p))
 
   -- a scalar that is not zero, of its code
-  abbrev pub not-zero : Option S → Result K GroupFault
-  not-zero None = Err NoScalar
-  not-zero (Some s) = positive (m .scalars .nonzero s)
-    where
-    positive : Option K → Result K GroupFault
-    positive None = Err NoScalar
-    positive (Some k) = Ok k
-
   unfoldable pub key-of : List ℕ → Result K GroupFault
-  key-of code = not-zero (scalar-of (m .scalars) code)
+  key-of code = then (okOr (scalar-of (m .scalars) code) NoScalar) (λ s. okOr (m .scalars .nonzero s) NoScalar)
 
   -- the input of a token under a public key
   unfoldable pub token-input : ℕ → List ℕ → List ℕ → E → List ℕ
@@ -67,3 +54,30 @@ module _ {E S K : Type 0} (m : Model E S K) where
     pub key-fits : parts .key-id ≡ key-id m (public-key m k)
     pub mapped : hash-to-group m (take 100 bytes) ≡ null m → ⊥
     pub authentic : parts .authenticator ≡ direct m k (take 100 bytes)
+
+-- a fault of the group, kept whole inside the batch's
+abbrev pub of-group : {T : Type 0} → Result T GroupFault → Result T BatchFault
+of-group (Ok x) = Ok x
+of-group (Err f) = Err (Group f)
+
+module _ {E S K : Type 0} (m : Model E S K) where
+  -- the input for an epoch, a nonce, a context and the code of a public key: lengths first, then the key
+  unfoldable pub input-answer : ℕ → List ℕ → List ℕ → List ℕ → Result (List ℕ) BatchFault
+  input-answer epoch nonce context code =
+      ruled
+      ((not (eqb (length nonce) 32), Wire WrongLength)
+      ∷ (not (eqb (length context) 32), Wire WrongLength)
+      ∷ (not (eqb (length code) (m .element-width)), Wire WrongLength)
+      ∷ [])
+      (then (of-group (element-of m code)) (λ pk. Ok (token-input m epoch nonce context pk)))
+
+  -- the authenticator of an input by a key: scratch, lengths, the key, and the input's element
+  unfoldable pub direct-answer : ℕ → List ℕ → List ℕ → Result (List ℕ) BatchFault
+  direct-answer room code input =
+      ruled
+      ((ltb room 1024, Wire ShortScratch)
+      ∷ (not (eqb (length code) (m .scalars .width)), Wire WrongLength)
+      ∷ (not (eqb (length input) 100), Wire WrongLength)
+      ∷ [])
+      (then (of-group (key-of m code)) (λ k.
+      ruled ((is-null m (hash-to-group m input), Group NullInput) ∷ []) (Ok (direct m k input))))
