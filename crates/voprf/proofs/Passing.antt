@@ -2,7 +2,7 @@
 use mathlib.Core.Path.{_≡_, refl, sym, ap, _∙_}
 use mathlib.Core.List.{List, [], _∷_, _++_, map}
 use Prim.Native.Nat.{ℕ, zero, suc, _+_, _-_, _*_, _/_, _%_, _<_, _≤_}
-use native.Mathlib.Nat.{mul-comm, mod-add-mod, mod-eq-of-lt, add-mod-right}
+use native.Mathlib.Nat.{mul-comm}
 use native.Mathlib.Omega.{arith}
 use mathlib.Core.Bool.{Bool, true, false, cond}
 use lib.ListN.{length, take, drop}
@@ -13,50 +13,23 @@ use Rattle.std.specs.declared.result.Result.{Result}
 use Rattle.std.specs.declared.result.Result.the-variants.{Ok, Err}
 use Rattle.faults.specs.declared.BatchFault.{BatchFault}
 use Rattle.faults.specs.declared.BatchFault.the-variants.{BadProof}
-use Rattle.scalar.specs.Scalars.{added, subtracted, multiplied}
+use Rattle.scalar.specs.Scalars.{subtracted, multiplied}
 use Rattle.group.specs.Model.{Model}
-use Rattle.group.specs.Elements.{null, generator, sum, opposite, base-multiple, multiple}
+use Rattle.group.specs.Elements.{null, generator, sum, base-multiple, multiple}
 use Rattle.group.specs.Theorems.{row}
-use Rattle.group.proofs.Laws.{lawful}
+use Rattle.group.proofs.Laws.{lawful, responds, multiple-null}
 use Rattle.group.proofs.Weighing.{row-length, length-quotient}
 use Rattle.voprf.specs.Blinding.{public-key, answered}
 use Rattle.voprf.specs.Proving.{then, read-item, seed, weight, step, steps, count, composites, challenge, proof-of, proved, rechallenge, checked, ProofsPass}
 use Rattle.voprf.proofs.Sums.{composites-whole, same-scalars, judged}
 
 module _ {E S K : Type 0} (m : Model E S K) where
-  -- what is taken away and added again
-  back : (u t : S) → added (m .scalars) (subtracted (m .scalars) u t) t ≡ u
-  unfolding added subtracted
-  back u t =
-      let q = m .scalars .order in
-      let n = m .scalars .number in
-      let lt = m .scalars .below t in
-      let lu = m .scalars .below u in
-      let full = m .scalars .full in
-      let e : n u + (q - n t) + n t ≡ n u + q = omega arith in
-      m .scalars .faithful _ u
-      (full (n (m .scalars .scalar (n u + (q - n t))) + n t)
-      ∙ ap (λ (x : ℕ). (x + n t) % q) (full (n u + (q - n t)))
-      ∙ mod-add-mod (n u + (q - n t)) q (n t)
-      ∙ ap (λ (x : ℕ). x % q) e
-      ∙ add-mod-right (n u) q
-      ∙ mod-eq-of-lt lu)
-
   swap : (s t : S) (x : E) → multiple m s (multiple m t x) ≡ multiple m t (multiple m s x)
   unfolding multiplied
   swap s t x =
       sym (lawful m .twice s t x)
       ∙ ap (λ (n : ℕ). multiple m (m .scalars .scalar n) x) (mul-comm (m .scalars .number s) (m .scalars .number t))
       ∙ lawful m .twice t s x
-
-  -- a response and a challenge lead back to the commitment
-  committed : (u c k : S) (x : E)
-      → sum m (multiple m (subtracted (m .scalars) u (multiplied (m .scalars) c k)) x) (multiple m c (multiple m k x)) ≡ multiple m u x
-  committed u c k x =
-      let ck = multiplied (m .scalars) c k in
-      ap (sum m (multiple m (subtracted (m .scalars) u ck) x)) (sym (lawful m .twice c k x))
-      ∙ sym (lawful m .shared (subtracted (m .scalars) u ck) ck x)
-      ∙ ap (λ s. multiple m s x) (back u ck)
 
   -- one item more, answered by the key: the second sum stays the key times the first
   stepped : (s : List ℕ) (i : ℕ) (k : K) (p total : E) →
@@ -111,14 +84,6 @@ module _ {E S K : Type 0} (m : Model E S K) where
       composites-whole m pk (row m ps) (row m qs) (lp ∙ ap (λ (n : ℕ). n * w) (sym many)) lq (let e = many in omega arith)
       ∙ ap (λ (n : ℕ). steps m (seed m pk) 0 n (row m ps) (row m qs) (null m, null m)) many
 
-  null-fixed : (k : S) → multiple m k (null m) ≡ null m
-  null-fixed k =
-      let x = multiple m k (null m) in
-      -- k null = k (null + null) = k null + k null, and one of the two is taken away
-      let twice : sum m x x ≡ x = sym (lawful m .spread k (null m) (null m)) ∙ ap (multiple m k) (lawful m .neutral (null m)) in
-      sym (lawful m .neutral x) ∙ ap (sum m x) (sym (lawful m .cancelled x)) ∙ sym (lawful m .grouped x x (opposite m x))
-      ∙ ap (λ y. sum m y (opposite m x)) twice ∙ lawful m .cancelled x
-
   -- the composites of a batch that the key answered: the second is the key times the first
   pub composed : (k : K) (pk : E) (ps : List E) → length ps ≤ 16 →
       (total : E) × (composites m pk (row m ps) (row m (map (answered m k) ps)) ≡ Ok (total, multiple m (m .scalars .part k) total))
@@ -127,7 +92,7 @@ module _ {E S K : Type 0} (m : Model E S K) where
       let s = summed (seed m pk) k ps 0 (null m) in (
         s .0,
         rows-whole ps (map (answered m k) ps) (length-map ps (answered m k)) few pk
-            ∙ ap (λ x. steps m (seed m pk) 0 (length ps) (row m ps) (row m (map (answered m k) ps)) (null m, x)) (sym (null-fixed key))
+            ∙ ap (λ x. steps m (seed m pk) 0 (length ps) (row m ps) (row m (map (answered m k) ps)) (null m, x)) (sym (multiple-null m key))
             ∙ s .1,
       )
 
@@ -147,9 +112,9 @@ module _ {E S K : Type 0} (m : Model E S K) where
       let t2 : sum m (base-multiple m s) (multiple m c pk) ≡ base-multiple m n =
       ap (λ x. sum m x (multiple m c pk)) (lawful m .based s)
       ∙ ap (λ x. sum m (multiple m s (generator m)) (multiple m c x)) (lawful m .based key)
-      ∙ committed n c key (generator m) ∙ sym (lawful m .based n) in
+      ∙ responds m n c key (generator m) ∙ sym (lawful m .based n) in
       ap (λ x. challenge m pk total got x (sum m (multiple m s total) (multiple m c got))) t2
-      ∙ ap (challenge m pk total got (base-multiple m n)) (committed n c key total)
+      ∙ ap (challenge m pk total got (base-multiple m n)) (responds m n c key total)
 
   pub proofs-pass : ProofsPass m
   unfolding proved
