@@ -1,0 +1,51 @@
+-- Bytes in hexadecimal: how they are written, what a text is read as, and the law that joins the two.
+use mathlib.Core.Path.{_≡_}
+use mathlib.Core.Bool.{Bool, true, cond, _&&_}
+use mathlib.Core.List.{List, [], _∷_, _++_}
+use Prim.Native.Nat.{ℕ, _+_, _-_, _*_, _/_, _%_, _<_, _≤_}
+use lib.Dec.{eqb, ltb}
+use lib.ListN.{length, take}
+use Rattle.std.specs.shelf.Lists.{All, leading}
+use Rattle.std.specs.Of.Vec.{vec-items, vec-len, vec-cap}
+use Rattle.std.specs.Results.{isOk}
+use Rattle.std.specs.declared.alloc.Global.{Global}
+use Rattle.std.specs.declared.result.Result.{Result}
+use Rattle.std.specs.declared.result.Result.the-variants.{Ok, Err}
+use Rattle.std.specs.declared.vec.Vec.{Vec}
+use Rattle.text.specs.Classes.{hex-digit}
+use Rattle.text.specs.declared.hex.HexFault.{HexFault}
+use Rattle.text.specs.declared.hex.HexFault.the-variants.{Wrong, Memory}
+
+-- the digit of a number below 16: 0 to 9, then a to f
+abbrev pub digit : ℕ → ℕ
+digit n = cond (ltb n 10) (48 + n) (87 + n)
+
+-- the number that a digit stands for
+abbrev pub worth : ℕ → ℕ
+worth c = cond (ltb c 58) (c - 48) (c - 87)
+
+-- the written form of bytes: two digits for each, the higher first
+abbrev pub written : List ℕ → List ℕ
+written [] = []
+written (b ∷ bs) = digit (b / 16) ∷ digit (b % 16) ∷ written bs
+
+-- the bytes that pairs of digits stand for
+abbrev pub paired : List ℕ → List ℕ
+paired [] = []
+paired (c ∷ []) = []
+paired (h ∷ l ∷ cs) = (worth h * 16 + worth l) ∷ paired cs
+
+-- whether a text is digits and nothing else, in pairs
+abbrev pub in-pairs : List ℕ → Bool
+in-pairs t = eqb (leading hex-digit t) (length t) && eqb (length t % 2) 0
+
+-- what a text is read as: its bytes, or the place at which it is refused
+unfoldable pub reading : List ℕ → Result (List ℕ) ℕ
+reading t = cond (in-pairs t) (Ok (paired t)) (Err (leading hex-digit t))
+
+-- What `read` does to the list of bytes that it adds to, from `v` to `w`: it adds the bytes of the text;
+-- or it refuses the text, and the list stays; or, where the list had no room for them, it gives up.
+abbrev pub Reads : List ℕ → Vec ℕ Global → Vec ℕ Global → Result (Unit {0}) HexFault → Type 0
+Reads t v w (Ok u) = (reading t ≡ Ok (paired t)) × (vec-items w ≡ vec-items v ++ paired t)
+Reads t v w (Err (Wrong place)) = (reading t ≡ Err place) × (w ≡ v)
+Reads t v w (Err Memory) = (isOk (reading t) ≡ true) × (vec-items w ≡ vec-items v) × (vec-cap v < vec-len v + length (paired t))
