@@ -49,3 +49,22 @@ abbrev pub Reads : List ℕ → Vec ℕ Global → Vec ℕ Global → Result (Un
 Reads t v w (Ok u) = (reading t ≡ Ok (paired t)) × (vec-items w ≡ vec-items v ++ paired t)
 Reads t v w (Err (Wrong place)) = (reading t ≡ Err place) × (w ≡ v)
 Reads t v w (Err Memory) = (isOk (reading t) ≡ true) × (vec-items w ≡ vec-items v) × (vec-cap v < vec-len v + length (paired t))
+
+-- numbers that are bytes
+abbrev pub Bytes : List ℕ → Type 0
+Bytes bs = All (λ b. b < 256) bs
+
+-- a text with which the written form of some bytes begins
+abbrev pub Begins : List ℕ → Type 0
+Begins t = (bs : List ℕ) × Bytes bs × ((rest : List ℕ) × (written bs ≡ t ++ rest))
+
+-- The law of reading. What was written is read as the bytes that it was written from, and nothing else is
+-- read: a text that is read is the written form of what it is read as. A text that is refused is the
+-- written form of no bytes, and its place is where it stops being like one: up to there it is how a
+-- written form begins, and no further.
+pub record Reading-undoes-writing : Type 0 where
+  pub back : (bs : List ℕ) → Bytes bs → reading (written bs) ≡ Ok bs
+  pub only : (t bs : List ℕ) → reading t ≡ Ok bs → Bytes bs × (written bs ≡ t)
+  pub none : (t : List ℕ) (place : ℕ) → reading t ≡ Err place → (bs : List ℕ) → Bytes bs → written bs ≡ t → ⊥
+  pub so-far : (t : List ℕ) (place : ℕ) → reading t ≡ Err place → (place ≤ length t) × Begins (take place t)
+  pub no-further : (t : List ℕ) (place : ℕ) → reading t ≡ Err place → (n : ℕ) → place < n → n ≤ length t → Begins (take n t) → ⊥

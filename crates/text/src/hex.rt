@@ -3,10 +3,12 @@ ghost use mathlib.Core.Path.{_≡_};
 ghost use Prim.Native.Nat.{_<_};
 ghost use lib.Dec.{T};
 ghost use Rattle.text.specs.Classes.{hex-digit};
-ghost use Rattle.text.specs.Hexadecimal.{digit as «digit-of», worth, Reads};
+ghost use Rattle.text.specs.Hexadecimal.{digit as «digit-of», worth, written, Reads, Reading-undoes-writing};
+ghost use Rattle.std.specs.declared.option.Option.the-variants.{Some};
 ghost use Rattle.text.specs.declared.hex.HexFault.the-variants.{Memory};
 use crate::class::Class;
 use std::alloc::AllocError;
+use std::fmt;
 
 #[derive(Clone, Copy, PartialEq, Eq, Debug)]
 pub enum HexFault {
@@ -53,4 +55,26 @@ pub fn read(text: &[u8], bytes: &mut Vec<u8>) -> Result<(), HexFault>
         rest = after;
     }
     Ok(())
+}
+
+// Bytes that are shown in hexadecimal, two digits for each.
+#[derive(Clone, Copy)]
+pub struct Hex<'a>(pub &'a [u8]);
+
+pub impl fmt::Display for Hex<'_> as HexDisplay {
+    ghost shown = { λ h. Some (written (h .0 .now)) };
+
+    fn fmt<W: fmt::Write>(&self, f: &mut fmt::Formatter<W>) -> fmt::Result {
+        for byte in self.0 {
+            f.write_char(digit_of(*byte / 16) as char)?;
+            f.write_char(digit_of(*byte % 16) as char)?;
+        }
+        Ok(())
+    }
+}
+
+// Reading undoes writing, and reads nothing else: the law of the two, for every text and all bytes.
+pub fn reading_undoes_writing()
+    ensures { λ _. ⌜ Reading-undoes-writing ⌝ }
+{
 }
