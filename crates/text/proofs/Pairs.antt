@@ -13,13 +13,7 @@ use Rattle.text.specs.Classes.{hex-digit}
 use Rattle.std.proofs.shelf.Tests.{eq-eqb, ne-eqb}
 use Rattle.std.specs.declared.result.Result.the-variants.{Ok, Err}
 use Rattle.text.specs.Hexadecimal.{paired, worth, reading}
-
--- the first of a run, and the rest of it
-pub run-parts : (p : ℕ → Bool) (c : ℕ) (cs : List ℕ) → leading p (c ∷ cs) ≡ length (c ∷ cs) → (p c ≡ true) × (leading p cs ≡ length cs)
-run-parts p c cs h =
-    let go : (b : Bool) → cond b (1 + leading p cs) 0 ≡ suc (length cs) → (b ≡ true) × (leading p cs ≡ length cs) =
-          λ b. elim b as (λ v. cond v (1 + leading p cs) 0 ≡ suc (length cs) → (v ≡ true) × (leading p cs ≡ length cs)) [ true ↦ λ e. (refl, omega arith) | false ↦ λ e. absurd (omega arith) ] in
-    go (p c) h
+use Rattle.text.proofs.Runs.{run-parts}
 
 -- what is left to read of a text, while `done` has what was there before it and the bytes read so far
 pub record Sofar (whole left done : List ℕ) : Type 0 where

@@ -17,7 +17,8 @@ use Rattle.std.specs.declared.result.Result.the-variants.{Ok, Err}
 use Rattle.std.specs.shelf.Lists.{All, leading}
 use Rattle.text.specs.Classes.{hex-digit}
 use Rattle.text.specs.Hexadecimal.{digit, worth, written, paired, in-pairs, reading, Bytes, Begins, Reading-undoes-writing}
-use Rattle.text.proofs.Pairs.{run-parts, reads-pairs}
+use Rattle.text.proofs.Pairs.{reads-pairs}
+use Rattle.text.proofs.Runs.{run-parts, run-of, front, stops, in-run}
 
 worth-digit : (n : ℕ) → n < 16 → worth (digit n) ≡ n
 worth-digit n small = grind (arith, tells)
@@ -27,9 +28,6 @@ digit-worth c h = (grind (arith, tells), grind (arith, tells))
 
 digit-is : (n : ℕ) → n < 16 → hex-digit (digit n) ≡ true
 digit-is n small = grind (arith, tells)
-
-run-of : (p : ℕ → Bool) (c : ℕ) (cs : List ℕ) → p c ≡ true → leading p cs ≡ length cs → leading p (c ∷ cs) ≡ length (c ∷ cs)
-run-of p c cs yes-c all = ap (λ b. cond b (1 + leading p cs) 0) yes-c ∙ omega arith
 
 written-run : (bs : List ℕ) → Bytes bs → leading hex-digit (written bs) ≡ length (written bs)
 written-run [] h = refl
@@ -86,27 +84,6 @@ begins (h ∷ l ∷ t) run =
     let b = byte-of h l (one .0) (two .0) in
     let more = begins t (two .1) in
     ((worth h * 16 + worth l) ∷ more .0, (b .0, more .1), (more .2 .0, λ i. b .1 i ∷ b .2 i ∷ more .2 .1 i))
-
--- the front of a text up to its first other character is a run, and at that character the run stops
-front : (p : ℕ → Bool) (t : List ℕ) → leading p (take (leading p t) t) ≡ length (take (leading p t) t)
-front p [] = refl
-front p (c ∷ cs) =
-    let go : (b : Bool) → p c ≡ b → leading p (take (cond b (1 + leading p cs) 0) (c ∷ cs)) ≡ length (take (cond b (1 + leading p cs) 0) (c ∷ cs)) =
-          λ b. elim b as (λ v. p c ≡ v → leading p (take (cond v (1 + leading p cs) 0) (c ∷ cs)) ≡ length (take (cond v (1 + leading p cs) 0) (c ∷ cs))) [ true ↦ λ e. rw one-add (run-of p c (take (leading p cs) cs) e (front p cs)) | false ↦ λ e. refl ] in
-    go (p c) refl
-
-stops : (p : ℕ → Bool) (t : List ℕ) → leading p t < length t → p (getD t (leading p t) 0) ≡ false
-stops p [] h = absurd (omega arith)
-stops p (c ∷ cs) h =
-    let go : (b : Bool) → p c ≡ b → cond b (1 + leading p cs) 0 < suc (length cs) → p (getD (c ∷ cs) (cond b (1 + leading p cs) 0) 0) ≡ false =
-          λ b. elim b as (λ v. p c ≡ v → cond v (1 + leading p cs) 0 < suc (length cs) → p (getD (c ∷ cs) (cond v (1 + leading p cs) 0) 0) ≡ false) [ true ↦ λ e l. rw one-add (stops p cs (omega arith)) | false ↦ λ e l. e ] in
-    go (p c) refl h
-
--- each character of a run is of its kind
-in-run : (p : ℕ → Bool) (t : List ℕ) → leading p t ≡ length t → (k : ℕ) → k < length t → p (getD t k 0) ≡ true
-in-run p [] run k h = absurd (omega arith)
-in-run p (c ∷ cs) run zero h = run-parts p c cs run .0
-in-run p (c ∷ cs) run (suc k) h = in-run p cs (run-parts p c cs run .1) k (omega arith)
 
 -- what a text is read as, by whether it is digits in pairs
 read-as : (t : List ℕ) (r : Result (List ℕ) ℕ) → reading t ≡ r →
