@@ -1,3 +1,4 @@
 pub mod Classes
 pub mod Decimals
 pub mod Hexadecimal
+pub mod Lines

@@ -1,5 +1,7 @@
 // Kinds of characters, and how far a text is of one kind.
 ghost use mathlib.Core.Path.{_≡_};
+ghost use Prim.Native.Nat.{_≤_};
+ghost use lib.ListN.{length};
 ghost use Rattle.std.specs.shelf.Lists.{leading};
 ghost use Rattle.text.specs.Classes.{belongs};
 
@@ -32,7 +34,8 @@ impl Class {
 
     // How many characters of this class the text begins with.
     pub fn run(self, text: &[u8]) -> usize
-        ensures { λ r. ⌜ r ≡ leading (belongs self) (now (text .entry)) ⌝ }
+        ensures count { λ r. ⌜ r ≡ leading (belongs self) (now (text .entry)) ⌝ }
+        ensures bound { λ r. ⌜ r ≤ length (now (text .entry)) ⌝ }
     {
         let mut count = 0;
         while count < text.len() && self.has(text[count]) {

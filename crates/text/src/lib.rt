@@ -10,3 +10,4 @@
 mod class;
 pub mod decimal;
 pub mod hex;
+pub mod words;

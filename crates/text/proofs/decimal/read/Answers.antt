@@ -23,7 +23,7 @@ returns-then-is-empty c = sym (refuses-empty _ _ (eqb-true _ 0 (sym (c .if-is-em
 
 pub returns-then-place-text : need.returns-then-place-text
 returns-then-place-text c =
-    ap (λ n. Err (NoDigit n)) (c .run-place .ensures) ∙ sym (refuses-other (c .args .most) _ (some (need.at·returns-then-place-text c .Else-is-empty)) (omega arith))
+    ap (λ n. Err (NoDigit n)) (c .run-place .ensures .count) ∙ sym (refuses-other (c .args .most) _ (some (need.at·returns-then-place-text c .Else-is-empty)) (omega arith))
 
 pub returns-then-text-eq48 : need.returns-then-text-eq48
 returns-then-text-eq48 c =

@@ -24,8 +24,8 @@ pub returns-then-place-text : need.returns-then-place-text
 returns-then-place-text c =
     let t = c .args .text .now in
     (elim (c .then-place-text .came) [
-      then-place-text·by·then-place-text w ↦ refuses-others t (omega arith) ∙ ap Err (sym (c .run-place .ensures))
-    | then-place-text·by·else-place-text·then-text-ne0 w ↦ refuses-odd t (w .if-text-ne0 .taken) (omega (arith, leading-le-length hex-digit t)) ∙ ap Err (sym (c .run-place .ensures))
+      then-place-text·by·then-place-text w ↦ refuses-others t (omega arith) ∙ ap Err (sym (c .run-place .ensures .count))
+    | then-place-text·by·else-place-text·then-text-ne0 w ↦ refuses-odd t (w .if-text-ne0 .taken) (omega (arith, leading-le-length hex-digit t)) ∙ ap Err (sym (c .run-place .ensures .count))
     ], refl)
 
 pub returns-in-Break-reserve : need.returns-in-Break-reserve

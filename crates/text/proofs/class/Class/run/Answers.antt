@@ -10,10 +10,12 @@ loop-count-again c =
     (omega arith, omega (arith, one, c .loop-count .inv .1))
 
 pub returns-after-loop-count : need.returns-after-loop-count
-returns-after-loop-count c =
-    omega (arith, c .loop-count .inv .1, leading-drop-all (belongs (c .args .self)) (c .args .text .now) (c .loop-count .count) (c .loop-count-test .left))
+returns-after-loop-count c = record {
+    bound = c .loop-count .inv .0;
+    count = omega (arith, c .loop-count .inv .1, leading-drop-all (belongs (c .args .self)) (c .args .text .now) (c .loop-count .count) (c .loop-count-test .left));
+  }
 
 pub returns-else-has : need.returns-else-has
 returns-else-has c =
     let none = leading-drop-no (belongs (c .args .self)) (c .args .text .now) (c .loop-count .count) 0 (c .loop-count-test .taken) (sym (c .if-has .ensures tt)) in
-    omega (arith, none, c .loop-count .inv .1)
+    record { bound = c .loop-count .inv .0; count = omega (arith, none, c .loop-count .inv .1) }
