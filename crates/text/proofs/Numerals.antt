@@ -36,10 +36,10 @@ Digits t = leading classes.decimal-digit t ≡ length t
 
 own : Numerals Digits number
 own = numerals-by-fold Digits (record {
-    empty = refl;
-    parts = λ c cs h. let p = run-parts classes.decimal-digit c cs h in (is-digit c (p .0), p .1);
-    more = λ c cs h p. run-of classes.decimal-digit c cs (digit-is c h) p;
-  }) number-after (record { empty = λ n. refl; more = λ n c cs h. refl })
+  empty = refl;
+  parts = λ c cs h. let p = run-parts classes.decimal-digit c cs h in (is-digit c (p .0), p .1);
+  more = λ c cs h p. run-of classes.decimal-digit c cs (digit-is c h) p;
+}) number-after (record { empty = λ n. refl; more = λ n c cs h. refl })
 
 pub number-grows : (n : ℕ) (cs : List ℕ) → n ≤ number-after n cs
 number-grows n [] = omega arith

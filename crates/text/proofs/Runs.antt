@@ -12,7 +12,7 @@ use Rattle.std.specs.shelf.Lists.{leading}
 pub run-parts : (p : ℕ → Bool) (c : ℕ) (cs : List ℕ) → leading p (c ∷ cs) ≡ length (c ∷ cs) → (p c ≡ true) × (leading p cs ≡ length cs)
 run-parts p c cs h =
     let go : (b : Bool) → cond b (1 + leading p cs) 0 ≡ suc (length cs) → (b ≡ true) × (leading p cs ≡ length cs) =
-          λ b. elim b as (λ v. cond v (1 + leading p cs) 0 ≡ suc (length cs) → (v ≡ true) × (leading p cs ≡ length cs)) [ true ↦ λ e. (refl, omega arith) | false ↦ λ e. absurd (omega arith) ] in
+    λ b. elim b as (λ v. cond v (1 + leading p cs) 0 ≡ suc (length cs) → (v ≡ true) × (leading p cs ≡ length cs)) [ true ↦ λ e. (refl, omega arith) | false ↦ λ e. absurd (omega arith) ] in
     go (p c) h
 
 -- one character more in front of a run
@@ -24,7 +24,7 @@ pub front : (p : ℕ → Bool) (t : List ℕ) → leading p (take (leading p t) 
 front p [] = refl
 front p (c ∷ cs) =
     let go : (b : Bool) → p c ≡ b → leading p (take (cond b (1 + leading p cs) 0) (c ∷ cs)) ≡ length (take (cond b (1 + leading p cs) 0) (c ∷ cs)) =
-          λ b. elim b as (λ v. p c ≡ v → leading p (take (cond v (1 + leading p cs) 0) (c ∷ cs)) ≡ length (take (cond v (1 + leading p cs) 0) (c ∷ cs))) [ true ↦ λ e. rw one-add (run-of p c (take (leading p cs) cs) e (front p cs)) | false ↦ λ e. refl ] in
+    λ b. elim b as (λ v. p c ≡ v → leading p (take (cond v (1 + leading p cs) 0) (c ∷ cs)) ≡ length (take (cond v (1 + leading p cs) 0) (c ∷ cs))) [ true ↦ λ e. rw one-add (run-of p c (take (leading p cs) cs) e (front p cs)) | false ↦ λ e. refl ] in
     go (p c) refl
 
 -- at that character the run stops
@@ -32,7 +32,7 @@ pub stops : (p : ℕ → Bool) (t : List ℕ) → leading p t < length t → p (
 stops p [] h = absurd (omega arith)
 stops p (c ∷ cs) h =
     let go : (b : Bool) → p c ≡ b → cond b (1 + leading p cs) 0 < suc (length cs) → p (getD (c ∷ cs) (cond b (1 + leading p cs) 0) 0) ≡ false =
-          λ b. elim b as (λ v. p c ≡ v → cond v (1 + leading p cs) 0 < suc (length cs) → p (getD (c ∷ cs) (cond v (1 + leading p cs) 0) 0) ≡ false) [ true ↦ λ e l. rw one-add (stops p cs (omega arith)) | false ↦ λ e l. e ] in
+    λ b. elim b as (λ v. p c ≡ v → cond v (1 + leading p cs) 0 < suc (length cs) → p (getD (c ∷ cs) (cond v (1 + leading p cs) 0) 0) ≡ false) [ true ↦ λ e l. rw one-add (stops p cs (omega arith)) | false ↦ λ e l. e ] in
     go (p c) refl h
 
 -- each character of a run is of its kind

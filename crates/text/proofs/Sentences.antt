@@ -46,10 +46,10 @@ pub past-blanks : (t : List ℕ) → words (drop (leading blank t) t) ≡ words 
 past-blanks [] = refl
 past-blanks (c ∷ cs) =
     let go : (b : Bool) → blank c ≡ b → words (drop (leading blank (c ∷ cs)) (c ∷ cs)) ≡ words (c ∷ cs) =
-          λ b. elim b as (λ v. blank c ≡ v → words (drop (leading blank (c ∷ cs)) (c ∷ cs)) ≡ words (c ∷ cs)) [
-            true ↦ λ e. ap (λ n. words (drop n (c ∷ cs))) (run-yes blank c cs e) ∙ past-blanks cs ∙ sym (words-blank c cs (ap not e))
-          | false ↦ λ e. ap (λ n. words (drop n (c ∷ cs))) (run-no blank c cs e)
-          ] in
+    λ b. elim b as (λ v. blank c ≡ v → words (drop (leading blank (c ∷ cs)) (c ∷ cs)) ≡ words (c ∷ cs)) [
+      | true ↦ λ e. ap (λ n. words (drop n (c ∷ cs))) (run-yes blank c cs e) ∙ past-blanks cs ∙ sym (words-blank c cs (ap not e))
+      | false ↦ λ e. ap (λ n. words (drop n (c ∷ cs))) (run-no blank c cs e)
+    ] in
     go (blank c) refl
 
 -- what is left after the blanks begins with no blank
@@ -57,10 +57,10 @@ pub no-blank : (t : List ℕ) → leading blank (drop (leading blank t) t) ≡ 0
 no-blank [] = refl
 no-blank (c ∷ cs) =
     let go : (b : Bool) → blank c ≡ b → leading blank (drop (leading blank (c ∷ cs)) (c ∷ cs)) ≡ 0 =
-          λ b. elim b as (λ v. blank c ≡ v → leading blank (drop (leading blank (c ∷ cs)) (c ∷ cs)) ≡ 0) [
-            true ↦ λ e. ap (λ n. leading blank (drop n (c ∷ cs))) (run-yes blank c cs e) ∙ no-blank cs
-          | false ↦ λ e. ap (λ n. leading blank (drop n (c ∷ cs))) (run-no blank c cs e) ∙ run-no blank c cs e
-          ] in
+    λ b. elim b as (λ v. blank c ≡ v → leading blank (drop (leading blank (c ∷ cs)) (c ∷ cs)) ≡ 0) [
+      | true ↦ λ e. ap (λ n. leading blank (drop n (c ∷ cs))) (run-yes blank c cs e) ∙ no-blank cs
+      | false ↦ λ e. ap (λ n. leading blank (drop n (c ∷ cs))) (run-no blank c cs e) ∙ run-no blank c cs e
+    ] in
     go (blank c) refl
 
 -- a text that begins with neither a blank nor anything else is empty
@@ -68,7 +68,7 @@ pub no-word : (t : List ℕ) → leading blank t ≡ 0 → leading solid t ≡ 0
 no-word [] b s = refl
 no-word (c ∷ cs) b s =
     let go : (v : Bool) → blank c ≡ v → ⊥ =
-          λ v. elim v as (λ v. blank c ≡ v → ⊥) [ true ↦ λ e. omega (arith, run-yes blank c cs e) | false ↦ λ e. omega (arith, run-yes solid c cs (ap not e)) ] in
+    λ v. elim v as (λ v. blank c ≡ v → ⊥) [ true ↦ λ e. omega (arith, run-yes blank c cs e) | false ↦ λ e. omega (arith, run-yes solid c cs (ap not e)) ] in
     absurd (go (blank c) refl)
 
 starts-run : (t : List ℕ) → starts-solid t ≡ true → 0 < leading solid t
@@ -89,10 +89,10 @@ run-is-word [] h = absurd (omega arith)
 run-is-word (c ∷ cs) h =
     let yes-c : solid c ≡ true = first-of-run solid c cs h (solid c) refl in
     let more : (b : Bool) → starts-solid cs ≡ b → words (c ∷ cs) ≡ (c ∷ take (leading solid cs) cs) ∷ words (drop (leading solid cs) cs) =
-          λ b. elim b as (λ v. starts-solid cs ≡ v → words (c ∷ cs) ≡ (c ∷ take (leading solid cs) cs) ∷ words (drop (leading solid cs) cs)) [
-            true ↦ λ e. words-on c cs yes-c e ∙ ap (onto-first c) (run-is-word cs (starts-run cs e))
-          | false ↦ λ e. words-end c cs yes-c e ∙ ap (λ n. (c ∷ take n cs) ∷ words (drop n cs)) (sym (ends-run cs e))
-          ] in
+    λ b. elim b as (λ v. starts-solid cs ≡ v → words (c ∷ cs) ≡ (c ∷ take (leading solid cs) cs) ∷ words (drop (leading solid cs) cs)) [
+      | true ↦ λ e. words-on c cs yes-c e ∙ ap (onto-first c) (run-is-word cs (starts-run cs e))
+      | false ↦ λ e. words-end c cs yes-c e ∙ ap (λ n. (c ∷ take n cs) ∷ words (drop n cs)) (sym (ends-run cs e))
+    ] in
     more (starts-solid cs) refl ∙ ap (λ n. take n (c ∷ cs) ∷ words (drop n (c ∷ cs))) (sym (run-yes solid c cs yes-c))
 
 -- one word taken from the front of t: u is what stands after the blanks
@@ -152,20 +152,20 @@ not-solid : (line : List ℕ) → Ends line → starts-solid (before-comment lin
 not-solid [] end = refl
 not-solid (c ∷ cs) end =
     let go : (b : Bool) → code c ≡ b → starts-solid (before-comment (c ∷ cs)) ≡ false =
-          λ b. elim b as (λ v. code c ≡ v → starts-solid (before-comment (c ∷ cs)) ≡ false) [
-            true ↦ λ e. ap starts-solid (comment-on c cs e) ∙ sym (and-true (solid c)) ∙ ap (λ x. solid c && x) (sym e) ∙ end
-          | false ↦ λ e. ap starts-solid (comment-from c cs e)
-          ] in
+    λ b. elim b as (λ v. code c ≡ v → starts-solid (before-comment (c ∷ cs)) ≡ false) [
+      | true ↦ λ e. ap starts-solid (comment-on c cs e) ∙ sym (and-true (solid c)) ∙ ap (λ x. solid c && x) (sym e) ∙ end
+      | false ↦ λ e. ap starts-solid (comment-from c cs e)
+    ] in
     go (code c) refl
 
 ends-there : (line : List ℕ) → starts-solid (before-comment line) ≡ false → Ends line
 ends-there [] e = tt
 ends-there (c ∷ cs) e =
     let go : (b : Bool) → code c ≡ b → in-word c ≡ false =
-          λ b. elim b as (λ v. code c ≡ v → in-word c ≡ false) [
-            true ↦ λ y. ap (λ x. solid c && x) y ∙ and-true (solid c) ∙ ap starts-solid (sym (comment-on c cs y)) ∙ e
-          | false ↦ λ n. outside c n
-          ] in
+    λ b. elim b as (λ v. code c ≡ v → in-word c ≡ false) [
+      | true ↦ λ y. ap (λ x. solid c && x) y ∙ and-true (solid c) ∙ ap starts-solid (sym (comment-on c cs y)) ∙ e
+      | false ↦ λ n. outside c n
+    ] in
     go (code c) refl
 
 starts-there : (line : List ℕ) → starts-solid (before-comment line) ≡ true → Ends line → ⊥

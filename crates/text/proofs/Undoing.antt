@@ -91,9 +91,10 @@ read-as : (t : List ℕ) (r : Result (List ℕ) ℕ) → reading t ≡ r →
 unfolding reading
 read-as t r e =
     let go : (b : Bool) → in-pairs t ≡ b → cond b (Ok (paired t)) (Err (leading hex-digit t)) ≡ r → ((leading hex-digit t ≡ length t) × (length t % 2 ≡ 0) × (r ≡ Ok (paired t))) ⊎ (r ≡ Err (leading hex-digit t)) =
-          λ b. elim b as (λ v. in-pairs t ≡ v → cond v (Ok (paired t)) (Err (leading hex-digit t)) ≡ r → ((leading hex-digit t ≡ length t) × (length t % 2 ≡ 0) × (r ≡ Ok (paired t))) ⊎ (r ≡ Err (leading hex-digit t)))
-          [ true ↦ λ yes-b is. let parts = and-parts _ _ yes-b in inl (eqb-true _ _ (parts .0), eqb-true _ _ (parts .1), sym is)
-          | false ↦ λ no-b is. inr (sym is) ] in
+    λ b. elim b as (λ v. in-pairs t ≡ v → cond v (Ok (paired t)) (Err (leading hex-digit t)) ≡ r → ((leading hex-digit t ≡ length t) × (length t % 2 ≡ 0) × (r ≡ Ok (paired t))) ⊎ (r ≡ Err (leading hex-digit t))) [
+      | true ↦ λ yes-b is. let parts = and-parts _ _ yes-b in inl (eqb-true _ _ (parts .0), eqb-true _ _ (parts .1), sym is)
+      | false ↦ λ no-b is. inr (sym is)
+    ] in
     go (in-pairs t) refl e
 
 ok-same : {x y : List ℕ} → _≡_ {A = Result (List ℕ) ℕ} (Ok x) (Ok y) → x ≡ y

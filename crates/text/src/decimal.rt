@@ -1,10 +1,14 @@
 // Numbers in decimal.
 ghost use mathlib.Core.Path.{_≡_};
-ghost use lib.ListN.{length};
+ghost use Prim.Native.Nat.{_≤_};
+ghost use lib.ListN.{length, drop};
+ghost use Rattle.std.specs.Written.{decimal};
 ghost use Rattle.std.specs.shelf.Lists.{leading};
+ghost use Rattle.text.specs.Appending.{Appends};
 ghost use Rattle.text.specs.Classes.{decimal-digit};
 ghost use Rattle.text.specs.Decimals.{number, within, numeral, Numerals-are-decimals};
 use crate::class::Class;
+use std::alloc::AllocError;
 
 #[derive(Clone, Copy, PartialEq, Eq, Debug)]
 pub enum NumberFault {
@@ -51,8 +55,35 @@ fn value(digits: &[u8], most: u64) -> Result<u64, NumberFault>
     Ok(so_far)
 }
 
+// The most digits that a number of 64 bits has.
+const DIGITS: usize = 20;
+
+// Spells the number at the end of `digits`, and answers where it starts.
+fn spell(number: u64, digits: &mut [u8; DIGITS]) -> usize
+    ensures within { λ r. ⌜ r ≤ 20 ⌝ }
+    ensures digits { λ r. ⌜ drop r (now (digits .exit)) ≡ decimal number ⌝ }
+{
+    let mut start = DIGITS - 1;
+    digits[start] = b'0' + (number % 10) as u8;
+    let mut rest = number / 10;
+    while rest > 0 {
+        start -= 1;
+        digits[start] = b'0' + (rest % 10) as u8;
+        rest /= 10;
+    }
+    start
+}
+
+// Adds the number's digits to the end of `text`.
+pub fn write(number: u64, text: &mut Vec<u8>) -> Result<(), AllocError>
+    ensures { λ r. ⌜ Appends (decimal number) (now (text .entry)) (now (text .exit)) r ⌝ }
+{
+    let mut digits = [0; DIGITS];
+    let start = spell(number, &mut digits);
+    text.extend_from_slice(&digits[start..])
+}
+
 // A number is read from its decimal form and from nothing else: the law of `read`, for every text.
 pub fn numerals_are_decimals()
     ensures { λ _. ⌜ Numerals-are-decimals ⌝ }
-{
-}
+{}

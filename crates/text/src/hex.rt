@@ -2,13 +2,12 @@
 ghost use mathlib.Core.Path.{_≡_};
 ghost use Prim.Native.Nat.{_<_};
 ghost use lib.Dec.{T};
+ghost use Rattle.text.specs.Appending.{Appends};
 ghost use Rattle.text.specs.Classes.{hex-digit};
 ghost use Rattle.text.specs.Hexadecimal.{digit as «digit-of», worth, written, Reads, Reading-undoes-writing};
-ghost use Rattle.std.specs.declared.option.Option.the-variants.{Some};
 ghost use Rattle.text.specs.declared.hex.HexFault.the-variants.{Memory};
 use crate::class::Class;
 use std::alloc::AllocError;
-use std::fmt;
 
 #[derive(Clone, Copy, PartialEq, Eq, Debug)]
 pub enum HexFault {
@@ -30,14 +29,22 @@ fn digit_of(number: u8) -> u8
     requires { ⌜ number < 16 ⌝ }
     ensures { λ r. ⌜ r ≡ «digit-of» number ⌝ }
 {
-    if number < 10 { b'0' + number } else { b'a' + (number - 10) }
+    if number < 10 {
+        b'0' + number
+    } else {
+        b'a' + (number - 10)
+    }
 }
 
 fn worth_of(digit: u8) -> u8
     requires { ⌜ T (hex-digit digit) ⌝ }
     ensures { λ r. ⌜ (r ≡ worth digit) × (r < 16) ⌝ }
 {
-    if digit <= b'9' { digit - b'0' } else { digit - b'a' + 10 }
+    if digit <= b'9' {
+        digit - b'0'
+    } else {
+        digit - b'a' + 10
+    }
 }
 
 // Adds the bytes that the text stands for to the end of `bytes`.
@@ -57,24 +64,19 @@ pub fn read(text: &[u8], bytes: &mut Vec<u8>) -> Result<(), HexFault>
     Ok(())
 }
 
-// Bytes that are shown in hexadecimal, two digits for each.
-#[derive(Clone, Copy)]
-pub struct Hex<'a>(pub &'a [u8]);
-
-pub impl fmt::Display for Hex<'_> as HexDisplay {
-    ghost shown = { λ h. Some (written (h .0 .now)) };
-
-    fn fmt<W: fmt::Write>(&self, f: &mut fmt::Formatter<W>) -> fmt::Result {
-        for byte in self.0 {
-            f.write_char(digit_of(*byte / 16) as char)?;
-            f.write_char(digit_of(*byte % 16) as char)?;
-        }
-        Ok(())
+// Adds the written form of the bytes to the end of `text`.
+pub fn write(bytes: &[u8], text: &mut Vec<u8>) -> Result<(), AllocError>
+    ensures { λ r. ⌜ Appends (written (now (bytes .entry))) (now (text .entry)) (now (text .exit)) r ⌝ }
+{
+    text.reserve(bytes.len() * 2)?;
+    for byte in bytes {
+        text.push_reserved(digit_of(*byte / 16));
+        text.push_reserved(digit_of(*byte % 16));
     }
+    Ok(())
 }
 
 // Reading undoes writing, and reads nothing else: the law of the two, for every text and all bytes.
 pub fn reading_undoes_writing()
     ensures { λ _. ⌜ Reading-undoes-writing ⌝ }
-{
-}
+{}

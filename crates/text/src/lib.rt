@@ -10,4 +10,55 @@
 mod class;
 pub mod decimal;
 pub mod hex;
+pub mod pieces;
 pub mod words;
+
+#[cfg(test)]
+mod tests {
+    use crate::decimal;
+    use crate::decimal::NumberFault;
+    use crate::decimal::NumberFaultDebug;
+    use crate::decimal::NumberFaultPartialEq;
+    use crate::hex;
+    use crate::hex::HexFault;
+    use crate::hex::HexFaultDebug;
+    use crate::hex::HexFaultPartialEq;
+    use crate::words::Words;
+    use std::test::*;
+
+    #[test]
+    fn hexadecimal_is_pairs_of_lower_case_digits(rt: LibcRuntime) -> Result<(), Fail> {
+        let mut bytes = Vec::new(rt.alloc());
+        hex::read(b"00ff1a", &mut bytes)?;
+        check(bytes.len() == 3)?;
+        check_eq(bytes[1], 255)?;
+        check_eq(bytes[2], 26)?;
+        check_eq(
+            hex::read(b"0aF0", &mut bytes),
+            Err(HexFault::Wrong { place: 2 }),
+        )?;
+        check_eq(
+            hex::read(b"abc", &mut bytes),
+            Err(HexFault::Wrong { place: 3 }),
+        )
+    }
+
+    #[test]
+    fn a_number_has_one_form() -> Result<(), Fail> {
+        check_eq(decimal::read(b"204", 204), Ok(204))?;
+        check_eq(decimal::read(b"204", 203), Err(NumberFault::TooLarge))?;
+        check_eq(decimal::read(b"0204", 999), Err(NumberFault::LeadingZero))?;
+        check_eq(
+            decimal::read(b"2o4", 999),
+            Err(NumberFault::NoDigit { place: 1 }),
+        )
+    }
+
+    #[test]
+    fn a_comment_ends_the_words() -> Result<(), Fail> {
+        let mut words = Words::of(b"  digest\t-# empty");
+        check(words.take() == Some(b"digest"))?;
+        check(words.take() == Some(b"-"))?;
+        check(words.take().is_none())
+    }
+}

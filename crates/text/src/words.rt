@@ -35,5 +35,4 @@ impl<'a> Words<'a> {
 // A line is read as its words in one way: the law of `Words`, for every line.
 pub fn one_reading()
     ensures { λ _. ⌜ One-reading ⌝ }
-{
-}
+{}

@@ -36,7 +36,7 @@ pub returns : need.returns
 returns c =
     let t = c .args .text .now in
     let other : 1 < length t → getD t 0 0 ≡ 48 → ⊥ = λ two zero-c. elim (c .else-text-gt1 .came) [
-      else-text-gt1·by·then-text-gt1·else-text-eq48 w ↦ w .if-text-eq48 .left zero-c
-    | else-text-gt1·by·else-text-gt1 w ↦ omega (arith, w .if-text-gt1 .left)
+      | else-text-gt1·by·then-text-gt1·else-text-eq48 w ↦ w .if-text-eq48 .left zero-c
+      | else-text-gt1·by·else-text-gt1 w ↦ omega (arith, w .if-text-gt1 .left)
     ] in
     c .value .ensures ∙ sym (reads-others (c .args .most) t (some (need.at·returns c .Else-is-empty)) (digits (need.at·returns c .Else-place-text)) other)

@@ -23,10 +23,9 @@ pub loop-digit-again : need.loop-digit-again
 loop-digit-again c =
     let t = c .args .digits .now in
     let i = c .loop-digit .digit-index in
-    let same : c .from .result * 10 + c .from-in-loop-digit .result ≡ c .loop-digit .so-far * 10 + (getD t i 0 - 48) = omega arith in
-    (
+    let same : c .from .result * 10 + c .from-in-loop-digit .result ≡ c .loop-digit .so-far * 10 + (getD t i 0 - 48) = omega arith in (
       ap (λ n. number-after n (drop (i + 1) t)) same ∙ one-more t (c .loop-digit .so-far) i (number t) (c .loop-digit-test .taken) (c .loop-digit .inv .0),
-      omega arith
+      omega arith,
     )
 
 pub returns : need.returns

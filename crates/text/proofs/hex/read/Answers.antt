@@ -22,11 +22,13 @@ whole c = (omega (arith, leading-le-length hex-digit (c .args .text .now)), omeg
 
 pub returns-then-place-text : need.returns-then-place-text
 returns-then-place-text c =
-    let t = c .args .text .now in
-    (elim (c .then-place-text .came) [
-      then-place-text·by·then-place-text w ↦ refuses-others t (omega arith) ∙ ap Err (sym (c .run-place .ensures .count))
-    | then-place-text·by·else-place-text·then-text-ne0 w ↦ refuses-odd t (w .if-text-ne0 .taken) (omega (arith, leading-le-length hex-digit t)) ∙ ap Err (sym (c .run-place .ensures .count))
-    ], refl)
+    let t = c .args .text .now in (
+      elim (c .then-place-text .came) [
+        | then-place-text·by·then-place-text w ↦ refuses-others t (omega arith) ∙ ap Err (sym (c .run-place .ensures .count))
+        | then-place-text·by·else-place-text·then-text-ne0 w ↦ refuses-odd t (w .if-text-ne0 .taken) (omega (arith, leading-le-length hex-digit t)) ∙ ap Err (sym (c .run-place .ensures .count))
+      ],
+      refl,
+    )
 
 pub returns-in-Break-reserve : need.returns-in-Break-reserve
 returns-in-Break-reserve c =
@@ -35,7 +37,7 @@ returns-in-Break-reserve c =
     rw (p .1, p .2) (
       ap isOk (reads-pairs _ (in-pairs .0) (in-pairs .1)),
       c .reserve .ensures .items,
-      omega (arith, c .in-Break-reserve .ensures tt .cases, length-paired (c .args .text .now) (in-pairs .1))
+      omega (arith, c .in-Break-reserve .ensures tt .cases, length-paired (c .args .text .now) (in-pairs .1)),
     )
 
 pub loop-rest-holds : need.loop-rest-holds
@@ -51,16 +53,14 @@ worth-of-requires-in-len2-up c κs = first-digits _ _ _ (omega (arith, ltb-false
 
 pub loop-rest-again : need.loop-rest-again
 loop-rest-again c =
-    let r = c .loop-rest .rest .now in
-    (
+    let r = c .loop-rest .rest .now in (
       subst (Sofar _ _) (sym (c .push-reserved .ensures .items)) (one-more _ _ _ _ _ (omega (arith, ltb-false)) (c .loop-rest .inv .0) (c .worth-of .ensures .0) (c .worth-of-in-len2-up .ensures .0)),
-      rw (take-rest r 2) (omega (arith, ltb-false, length-drop 2 r, c .loop-rest .inv .1))
+      rw (take-rest r 2) (omega (arith, ltb-false, length-drop 2 r, c .loop-rest .inv .1)),
     )
 
 pub returns : need.returns
 returns c =
-    let in-pairs = whole (need.at·returns c .Else-text-ne0) in
-    (
+    let in-pairs = whole (need.at·returns c .Else-text-ne0) in (
       reads-pairs _ (in-pairs .0) (in-pairs .1),
-      all-read _ _ _ (omega (arith, ltb-true)) (c .loop-rest .inv .0) ∙ ap (λ l. l ++ paired (c .args .text .now)) (c .reserve .ensures .items)
+      all-read _ _ _ (omega (arith, ltb-true)) (c .loop-rest .inv .0) ∙ ap (λ l. l ++ paired (c .args .text .now)) (c .reserve .ensures .items),
     )

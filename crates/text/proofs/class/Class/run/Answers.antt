@@ -11,9 +11,9 @@ loop-count-again c =
 
 pub returns-after-loop-count : need.returns-after-loop-count
 returns-after-loop-count c = record {
-    bound = c .loop-count .inv .0;
-    count = omega (arith, c .loop-count .inv .1, leading-drop-all (belongs (c .args .self)) (c .args .text .now) (c .loop-count .count) (c .loop-count-test .left));
-  }
+  bound = c .loop-count .inv .0;
+  count = omega (arith, c .loop-count .inv .1, leading-drop-all (belongs (c .args .self)) (c .args .text .now) (c .loop-count .count) (c .loop-count-test .left));
+}
 
 pub returns-else-has : need.returns-else-has
 returns-else-has c =
