@@ -3,7 +3,7 @@ use mathlib.Core.Bool.{Bool, not, _&&_, _||_}
 use Prim.Native.Nat.{ℕ}
 use lib.Dec.{eqb, leb}
 use Rattle.text.specs.declared.class.Class.{Class}
-use Rattle.text.specs.declared.class.Class.the-variants.{Hexadecimal, Decimal, Blank, Solid, Code}
+use Rattle.text.specs.declared.class.Class.the-variants.{Hexadecimal, Decimal, Blank, Solid, Code, Name}
 
 -- 0 to 9
 abbrev pub decimal-digit : ℕ → Bool
@@ -25,9 +25,14 @@ solid c = not (blank c)
 abbrev pub code : ℕ → Bool
 code c = not (eqb c 35)
 
+-- a letter, a digit or `_`
+abbrev pub name-character : ℕ → Bool
+name-character c = ((leb 65 c && leb c 90) || eqb c 95) || ((leb 97 c && leb c 122) || decimal-digit c)
+
 abbrev pub belongs : Class → ℕ → Bool
 belongs Hexadecimal = hex-digit
 belongs Decimal = decimal-digit
 belongs Blank = blank
 belongs Solid = solid
 belongs Code = code
+belongs Name = name-character

@@ -17,6 +17,8 @@ pub enum Class {
     Solid,
     // what comes before a comment: anything but `#`
     Code,
+    // what a name is made of: letters, digits and `_`
+    Name,
 }
 
 impl Class {
@@ -29,6 +31,7 @@ impl Class {
             Class::Blank => matches!(character, b' ' | b'\t' | b'\r'),
             Class::Solid => !matches!(character, b' ' | b'\t' | b'\r'),
             Class::Code => character != b'#',
+            Class::Name => matches!(character, b'A'..=b'Z' | b'_' | b'a'..=b'z' | b'0'..=b'9'),
         }
     }
 

@@ -1,0 +1,3 @@
+pub mod Commands
+pub mod Kept
+pub mod Reports
