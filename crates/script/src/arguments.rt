@@ -1,5 +1,5 @@
 // The words after a command, as what they stand for.
-ghost use Rattle.script.specs.Arguments.{argument, recalled, from-name, picked, Adds, Picks};
+ghost use Rattle.script.specs.Arguments.{argument, recalled, picked, Adds, Picks};
 ghost use Rattle.script.specs.Kept.{holds};
 use crate::errors::LineFault;
 use crate::names::Names;

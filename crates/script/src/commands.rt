@@ -1,6 +1,6 @@
 // The commands of a script.
 ghost use mathlib.Core.Path.{_≡_};
-ghost use Rattle.script.specs.Commands.{word-of, Called};
+ghost use Rattle.script.specs.Commands.{word-of, command-of};
 
 #[derive(Clone, Copy, PartialEq, Eq, Debug)]
 pub enum Command {
@@ -8,15 +8,20 @@ pub enum Command {
     Digest,
 }
 
+// All the commands.
+const COMMANDS: [Command; 1] = [Command::Digest];
+
 impl Command {
     // The command that a word calls.
     pub fn of(word: &[u8]) -> Option<Command>
-        ensures { λ r. ⌜ Called (now (word .entry)) r ⌝ }
+        ensures { λ r. ⌜ r ≡ command-of (now (word .entry)) ⌝ }
     {
-        match word {
-            b"digest" => Some(Command::Digest),
-            _ => None,
+        for command in &COMMANDS {
+            if command.word().as_bytes() == word {
+                return Some(*command);
+            }
         }
+        None
     }
 
     // The word that calls the command.

@@ -7,6 +7,7 @@
 // The bench program hands every line of its input to a `Session` and prints the report that it answers. A
 // command is a word of `Command` and an arm in `session`: that is where one is added.
 pub mod answers;
+pub mod arguments;
 pub mod commands;
 pub mod errors;
 pub mod names;
