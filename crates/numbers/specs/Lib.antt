@@ -1,0 +1,4 @@
+pub mod Prime
+pub mod Bytes
+pub mod Sought
+pub mod Cycle

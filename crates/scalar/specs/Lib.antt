@@ -1,0 +1,4 @@
+pub mod Scalars
+pub mod Inverse
+pub mod Laws
+pub mod Modulo
