@@ -2,11 +2,11 @@
 use mathlib.Core.Path.{_≡_}
 use mathlib.Core.Bool.{cond}
 use mathlib.Core.List.{List, [], _∷_, _++_}
-use Prim.Native.Nat.{ℕ, suc, _+_, _-_, _*_, _/_, _<_}
+use Prim.Native.Nat.{ℕ, _+_, _-_, _*_, _/_, _<_}
 use denote.Ref.{RefT}
 use lib.Chars.{codes}
 use lib.Dec.{eqb}
-use lib.ListN.{length, take, drop}
+use lib.ListN.{length, getD, take, drop}
 use Rattle.std.specs.Of.Vec.{vec-items, vec-len, vec-cap}
 use Rattle.std.specs.declared.alloc.Global.{Global}
 use Rattle.std.specs.declared.option.Option.{Option}
@@ -20,6 +20,9 @@ use Rattle.text.specs.Classes.{name-character}
 use Rattle.text.specs.Decimals.{numeral}
 use Rattle.text.specs.Hexadecimal.{reading}
 use Rattle.text.specs.declared.decimal.NumberFault.{NumberFault}
+use Rattle.text.specs.declared.hex.HexFault.{HexFault}
+use Rattle.text.specs.declared.hex.HexFault.the-variants as hex
+use Rattle.text.specs.declared.hex.HexFault.the-variants.{Wrong}
 use Rattle.script.specs.declared.errors.LineFault.{LineFault}
 use Rattle.script.specs.declared.errors.LineFault.the-variants.{WrongDigit, UnknownName, NoToken, Memory}
 
@@ -28,18 +31,19 @@ abbrev pub Table : Type 0
 Table = List ℕ → Option (List ℕ)
 
 -- token k of those that stand one after another, 132 bytes each, counted from 1
-abbrev pub token : ℕ → List ℕ → List ℕ
-token k bs = take 132 (drop (132 * (k - 1)) bs)
+abbrev pub token-at : ℕ → List ℕ → List ℕ
+token-at k bs = take 132 (drop ((k - 1) * 132) bs)
 
 -- a token that is there
 abbrev pub numbered : ℕ → List ℕ → Result ℕ NumberFault → Result (List ℕ) LineFault
 numbered at bs (Err f) = Err (NoToken at)
-numbered at bs (Ok k) = cond (eqb k 0) (Err (NoToken at)) (Ok (token k bs))
+numbered at bs (Ok k) = cond (eqb k 0) (Err (NoToken at)) (Ok (token-at k bs))
 
 -- all of the bytes; or, after a dot, one token of them
 abbrev pub picked : ℕ → List ℕ → List ℕ → Result (List ℕ) LineFault
-picked at bs [] = Ok bs
-picked at bs (c ∷ cs) = cond (eqb c 46) (numbered at bs (numeral (length bs / 132) cs)) (Err (UnknownName at))
+picked at bs rest =
+    cond (eqb (length rest) 0) (Ok bs)
+    (cond (eqb (getD rest 0 0) 46) (numbered at bs (numeral (length bs / 132) (drop 1 rest))) (Err (UnknownName at)))
 
 -- what is kept under a name, if anything is, or a token of it
 abbrev pub from-name : ℕ → List ℕ → Option (List ℕ) → Result (List ℕ) LineFault
@@ -50,19 +54,20 @@ from-name at rest (Some bs) = picked at bs rest
 abbrev pub recalled : Table → ℕ → List ℕ → Result (List ℕ) LineFault
 recalled table at t = from-name at (drop (leading name-character t) t) (table (take (leading name-character t) t))
 
--- bytes in hexadecimal; characters count from 1
+-- why bytes in hexadecimal are not had
+abbrev pub misreading : ℕ → HexFault → LineFault
+misreading at (Wrong place) = WrongDigit at place
+misreading at hex.Memory = Memory
+
+-- bytes in hexadecimal
 abbrev pub as-bytes : ℕ → Result (List ℕ) ℕ → Result (List ℕ) LineFault
 as-bytes at (Ok bs) = Ok bs
 as-bytes at (Err place) = Err (WrongDigit at place)
 
--- a word that does not begin with `$`
-abbrev pub plain : ℕ → List ℕ → Result (List ℕ) LineFault
-plain at w = cond (sameBytes w (codes "-")) (Ok []) (as-bytes at (reading w))
-
--- what a word stands for
+-- what a word stands for: `-` the empty string, `$` and a name what is kept, any other the bytes it writes
 abbrev pub argument : Table → ℕ → List ℕ → Result (List ℕ) LineFault
-argument table at [] = plain at []
-argument table at (c ∷ cs) = cond (eqb c 36) (recalled table at cs) (plain at (c ∷ cs))
+argument table at w =
+    cond (sameBytes w (codes "-")) (Ok []) (cond (eqb (getD w 0 0) 36) (recalled table at (drop 1 w)) (as-bytes at (reading w)))
 
 -- The bytes that a word stands for are added to `v`, which becomes `w`; or the word is refused, and v stays;
 -- or, where v has no room for the bytes, memory may be wanting.

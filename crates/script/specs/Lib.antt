@@ -2,3 +2,4 @@ pub mod Arguments
 pub mod Commands
 pub mod Kept
 pub mod Reports
+pub mod Statements

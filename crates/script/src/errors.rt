@@ -1,4 +1,9 @@
 // What is wrong with a line.
+ghost use mathlib.Core.Path.{_≡_};
+ghost use Rattle.script.specs.declared.errors.LineFault.the-variants.{Memory};
+use std::alloc::AllocError;
+use std::fmt;
+
 // Words count from 1, and a place is how many characters of the word come before it.
 #[derive(Clone, Copy, PartialEq, Eq, Debug)]
 pub enum LineFault {
@@ -18,4 +23,32 @@ pub enum LineFault {
     NoToken { word: usize },
     // no memory is left for what the line says
     Memory,
+}
+
+pub impl From<AllocError> for LineFault as LineFaultFromAlloc {
+    ghost converts = { λ _ r. r ≡ Memory };
+
+    fn from(_e: AllocError) -> LineFault {
+        LineFault::Memory
+    }
+}
+
+pub impl fmt::Display for LineFault as LineFaultDisplay {
+    fn fmt<W: fmt::Write>(&self, f: &mut fmt::Formatter<W>) -> fmt::Result {
+        match *self {
+            LineFault::UnknownCommand { word } => write!(f, "word {word} is no command"),
+            LineFault::MissingWord { word } => write!(f, "word {word} is missing"),
+            LineFault::ExtraWord { word } => write!(f, "word {word} is one too many"),
+            LineFault::BadName { word } => {
+                write!(f, "word {word} is no name: a name has letters, digits and _ only")
+            }
+            LineFault::WrongDigit { word, place } => {
+                let character = place.saturating_add(1);
+                write!(f, "word {word}, character {character}: bytes are pairs of digits, 0 to 9 and a to f")
+            }
+            LineFault::UnknownName { word } => write!(f, "word {word}: nothing is kept under this name"),
+            LineFault::NoToken { word } => write!(f, "word {word}: there is no token of this number"),
+            LineFault::Memory => write!(f, "no memory is left"),
+        }
+    }
 }

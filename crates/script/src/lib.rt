@@ -11,3 +11,4 @@ pub mod arguments;
 pub mod commands;
 pub mod errors;
 pub mod names;
+pub mod statements;

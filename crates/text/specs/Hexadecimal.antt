@@ -1,13 +1,12 @@
 -- Bytes in hexadecimal: how they are written, what a text is read as, and the law that joins the two.
 use mathlib.Core.Path.{_≡_}
-use mathlib.Core.Bool.{Bool, true, cond, _&&_}
+use mathlib.Core.Bool.{Bool, cond, _&&_}
 use mathlib.Core.List.{List, [], _∷_, _++_}
 use Prim.Native.Nat.{ℕ, _+_, _-_, _*_, _/_, _%_, _<_, _≤_}
 use lib.Dec.{eqb, ltb}
 use lib.ListN.{length, take}
 use Rattle.std.specs.shelf.Lists.{All, leading}
 use Rattle.std.specs.Of.Vec.{vec-items, vec-len, vec-cap}
-use Rattle.std.specs.Results.{isOk}
 use Rattle.std.specs.declared.alloc.Global.{Global}
 use Rattle.std.specs.declared.result.Result.{Result}
 use Rattle.std.specs.declared.result.Result.the-variants.{Ok, Err}
@@ -48,7 +47,7 @@ reading t = cond (in-pairs t) (Ok (paired t)) (Err (leading hex-digit t))
 abbrev pub Reads : List ℕ → Vec ℕ Global → Vec ℕ Global → Result (Unit {0}) HexFault → Type 0
 Reads t v w (Ok u) = (reading t ≡ Ok (paired t)) × (vec-items w ≡ vec-items v ++ paired t)
 Reads t v w (Err (Wrong place)) = (reading t ≡ Err place) × (w ≡ v)
-Reads t v w (Err Memory) = (isOk (reading t) ≡ true) × (vec-items w ≡ vec-items v) × (vec-cap v < vec-len v + length (paired t))
+Reads t v w (Err Memory) = (reading t ≡ Ok (paired t)) × (vec-items w ≡ vec-items v) × (vec-cap v < vec-len v + length (paired t))
 
 -- numbers that are bytes
 abbrev pub Bytes : List ℕ → Type 0

@@ -7,7 +7,6 @@ use Rattle.std.proofs.shelf.Lists.{take-rest, length-drop}
 use Rattle.std.proofs.shelf.Results.{err-from-errBy}
 use Rattle.std.proofs.shelf.Sums.{leading-le-length}
 use Rattle.std.proofs.shelf.Tests.{ltb-true, ltb-false}
-use Rattle.std.specs.Results.{isOk}
 use Rattle.std.specs.declared.result.Result.the-variants.{Err}
 use Rattle.std.specs.shelf.Lists.{leading}
 use Rattle.text.specs.Classes.{hex-digit}
@@ -35,7 +34,7 @@ returns-in-Break-reserve c =
     let p = err-from-errBy (c .from-residual .result) (c .from-residual .ensures .1) in
     let in-pairs = whole (need.at·returns-in-Break-reserve c .Else-text-ne0) in
     rw (p .1, p .2) (
-      ap isOk (reads-pairs _ (in-pairs .0) (in-pairs .1)),
+      reads-pairs _ (in-pairs .0) (in-pairs .1),
       c .reserve .ensures .items,
       omega (arith, c .in-Break-reserve .ensures tt .cases, length-paired (c .args .text .now) (in-pairs .1)),
     )
