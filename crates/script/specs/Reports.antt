@@ -29,14 +29,31 @@ abbrev pub yes-no : Bool → List ℕ
 yes-no true = codes "yes"
 yes-no false = codes "no"
 
+-- what a command answers
+pub data Said : Type 0 where
+  done : Said
+  number : ℕ → Said
+  flag : Bool → Said
+  bytes : List ℕ → Said
+
+abbrev pub said : Answer → Said
+said Done = done
+said (Number n) = number n
+said (Flag b) = flag b
+said (Bytes bs) = bytes (vec-items bs)
+
+abbrev pub outcome-of : Result Answer Refusal → Result Said Refusal
+outcome-of (Ok a) = Ok (said a)
+outcome-of (Err f) = Err f
+
 -- what comes after the command's word
-abbrev pub told : Result Answer Refusal → List (List ℕ)
-told (Ok Done) = codes ": ok" ∷ []
-told (Ok (Number n)) = codes ": ok " ∷ decimal n ∷ []
-told (Ok (Flag b)) = codes ": ok " ∷ yes-no b ∷ []
-told (Ok (Bytes bs)) = codes ": ok " ∷ in-script (vec-items bs) ∷ []
+abbrev pub told : Result Said Refusal → List (List ℕ)
+told (Ok done) = codes ": ok" ∷ []
+told (Ok (number n)) = codes ": ok " ∷ decimal n ∷ []
+told (Ok (flag b)) = codes ": ok " ∷ yes-no b ∷ []
+told (Ok (bytes bs)) = codes ": ok " ∷ in-script bs ∷ []
 told (Err f) = codes ": fault " ∷ decimal (f .number) ∷ codes " " ∷ layer-name (f .layer) ∷ codes " item " ∷ decimal (f .item) ∷ []
 
 -- `COMMAND: ok`, `COMMAND: ok ANSWER` or `COMMAND: fault NUMBER LAYER item ITEM`
 abbrev pub printed : Report → List ℕ
-printed r = row (word-of (r .command) ∷ told (r .outcome))
+printed r = row (word-of (r .command) ∷ told (outcome-of (r .outcome)))

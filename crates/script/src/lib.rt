@@ -11,4 +11,5 @@ pub mod arguments;
 pub mod commands;
 pub mod errors;
 pub mod names;
+pub mod session;
 pub mod statements;

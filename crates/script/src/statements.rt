@@ -2,7 +2,7 @@
 ghost use mathlib.Core.Path.{_≡_};
 ghost use Rattle.std.specs.Options.{mapped};
 ghost use Rattle.text.specs.Lines.{left, line-words};
-ghost use Rattle.script.specs.Statements.{command-at, calling, statement, parsed};
+ghost use Rattle.script.specs.Statements.{command-at, calling, naming, statement, parsed};
 use crate::commands::Command;
 use crate::errors::LineFault;
 use text::class::Class;
@@ -40,14 +40,21 @@ pub fn parse(line: &[u8]) -> Result<Option<Statement<'_>>, LineFault>
     let Some(second) = after.take() else {
         return call(None, first, words);
     };
-    if second != KEPT_AS {
-        return call(None, first, words);
+    if second == KEPT_AS {
+        return named(first, after);
     }
-    if Class::Name.run(first) < first.len() {
+    call(None, first, words)
+}
+
+// What follows a name and its mark.
+fn named<'a>(name: &'a [u8], mut words: Words<'a>) -> Result<Option<Statement<'a>>, LineFault>
+    ensures { λ r. ⌜ parsed r ≡ naming (now (name .entry)) (left (words .entry)) ⌝ }
+{
+    if Class::Name.run(name) < name.len() {
         return Err(LineFault::BadName { word: 1 });
     }
-    match after.take() {
-        Some(word) => call(Some(first), word, after),
+    match words.take() {
+        Some(word) => call(Some(name), word, words),
         None => Err(LineFault::MissingWord { word: 3 }),
     }
 }
