@@ -1,2 +1,3 @@
 pub mod Arguing
+pub mod Doing
 pub mod Table

@@ -54,20 +54,20 @@ module _ (name : List ℕ) where
         cond (sameBytes (vec-items (x .name)) other) (Some (vec-items (x .bytes))) r ≡ now-holds (cond (sameBytes (vec-items (x .name)) other) (Some (vec-items (x .bytes))) before)
     in-front x r before apart e =
         let go : (b : Bool) → sameBytes (vec-items (x .name)) other ≡ b → cond b (Some (vec-items (x .bytes))) r ≡ now-holds (cond b (Some (vec-items (x .bytes))) before) =
-              λ b. elim b as (λ v. sameBytes (vec-items (x .name)) other ≡ v → cond v (Some (vec-items (x .bytes))) r ≡ now-holds (cond v (Some (vec-items (x .bytes))) before)) [
-                true ↦ λ is. ap (λ v. cond v (Some bytes) (Some (vec-items (x .bytes)))) (sym (differ name other (λ h. apart (sameBytes-decides _ _ .0 is ∙ sym h))))
-              | false ↦ λ is. e
-              ] in
+        λ b. elim b as (λ v. sameBytes (vec-items (x .name)) other ≡ v → cond v (Some (vec-items (x .bytes))) r ≡ now-holds (cond v (Some (vec-items (x .bytes))) before)) [
+          | true ↦ λ is. ap (λ v. cond v (Some bytes) (Some (vec-items (x .bytes)))) (sym (differ name other (λ h. apart (sameBytes-decides _ _ .0 is ∙ sym h))))
+          | false ↦ λ is. e
+        ] in
         go (sameBytes (vec-items (x .name)) other) refl
 
     pub found-set : (es : List Entry) (i : ℕ) (e : Entry) → Located es name (Some i) → vec-items (e .name) ≡ name → vec-items (e .bytes) ≡ bytes → found (set es i e) other ≡ now-holds (found es other)
     found-set [] i e l n b = absurd (omega (arith, l .0))
     found-set (x ∷ es) zero e l n b =
         let go : (v : Bool) → sameBytes name other ≡ v → cond v (Some bytes) (found es other) ≡ cond v (Some bytes) (found (x ∷ es) other) =
-              λ v. elim v as (λ v. sameBytes name other ≡ v → cond v (Some bytes) (found es other) ≡ cond v (Some bytes) (found (x ∷ es) other)) [
-                true ↦ λ is. refl
-              | false ↦ λ is. ap (λ v. cond v (Some (vec-items (x .bytes))) (found es other)) (sym (ap (λ m. sameBytes m other) (l .1 x) ∙ is))
-              ] in
+        λ v. elim v as (λ v. sameBytes name other ≡ v → cond v (Some bytes) (found es other) ≡ cond v (Some bytes) (found (x ∷ es) other)) [
+          | true ↦ λ is. refl
+          | false ↦ λ is. ap (λ v. cond v (Some (vec-items (x .bytes))) (found es other)) (sym (ap (λ m. sameBytes m other) (l .1 x) ∙ is))
+        ] in
         (λ j. cond (sameBytes (n j) other) (Some (b j)) (found es other)) ∙ go (sameBytes name other) refl
     found-set (x ∷ es) (suc i) e l n b =
         in-front x (found (set es i e) other) (found es other) (λ h. l .2 0 (omega arith) (λ d. h)) (found-set es i e (past-some x es i l) n b)

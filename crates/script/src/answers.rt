@@ -42,7 +42,11 @@ impl Report {
             }
             Ok(Answer::Bytes(bytes)) => {
                 let bytes = bytes.as_slice();
-                let shown = if bytes.is_empty() { Piece::Text("-") } else { Piece::Bytes(bytes) };
+                let shown = if bytes.is_empty() {
+                    Piece::Text("-")
+                } else {
+                    Piece::Bytes(bytes)
+                };
                 pieces::write(&[word, Piece::Text(": ok "), shown], line)
             }
             Err(refusal) => {

@@ -40,14 +40,26 @@ pub impl fmt::Display for LineFault as LineFaultDisplay {
             LineFault::MissingWord { word } => write!(f, "word {word} is missing"),
             LineFault::ExtraWord { word } => write!(f, "word {word} is one too many"),
             LineFault::BadName { word } => {
-                write!(f, "word {word} is no name: a name has letters, digits and _ only")
+                write!(
+                    f,
+                    "word {word} is no name: a name has letters, digits and _ only"
+                )
             }
             LineFault::WrongDigit { word, place } => {
                 let character = place.saturating_add(1);
-                write!(f, "word {word}, character {character}: bytes are pairs of digits, 0 to 9 and a to f")
+                write!(
+                    f,
+                    "word {word}, character {character}: bytes are pairs of digits, 0 to 9 and a to f"
+                )
             }
-            LineFault::UnknownName { word } => write!(f, "word {word}: nothing is kept under this name"),
-            LineFault::NoToken { word } => write!(f, "word {word}: there is no token of this number"),
+            LineFault::UnknownName { word } => write!(
+                f,
+                "word {word}: nothing is kept under this name"
+            ),
+            LineFault::NoToken { word } => write!(
+                f,
+                "word {word}: there is no token of this number"
+            ),
             LineFault::Memory => write!(f, "no memory is left"),
         }
     }

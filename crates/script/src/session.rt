@@ -88,7 +88,10 @@ impl Session {
     }
 
     // An answer of bytes, or the refusal of a wire fault.
-    fn bytes(&self, answer: Result<[u8; 32], WireFault>) -> Result<Result<Answer, Refusal>, LineFault>
+    fn bytes(
+        &self,
+        answer: Result<[u8; 32], WireFault>,
+    ) -> Result<Result<Answer, Refusal>, LineFault>
         ensures { λ r. ⌜ Answers (Ok (wired answer)) r ⌝ }
     {
         match answer {

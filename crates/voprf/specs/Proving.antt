@@ -65,7 +65,7 @@ module _ {E S K : Type 0} (m : Model E S K) where
   composites pk bs es =
       cond (paired bs es)
       (and-then (weighted-sum m bs (weights pk (count bs) bs es)) (λ sent.
-       and-then (weighted-sum m es (weights pk (count bs) bs es)) (λ got. Ok (sent, got))))
+      and-then (weighted-sum m es (weights pk (count bs) bs es)) (λ got. Ok (sent, got))))
       (Err (BatchWire WrongLength))
 
   -- the hash that ties a proof to its key, its composites and its two commitments

@@ -28,9 +28,9 @@ other c e = both-ways _ (c .if-eq .left) (matches-decides _ _ _ (c .eq .ensures)
 
 no-dollar : (c : Joined-word-lt1) → getD (c .args .word .now) 0 0 ≡ 36 → ⊥
 no-dollar c e = elim (c .if-word-lt1 .came) [
-    then-word-lt1 w ↦ omega (arith, getD-past (c .args .word .now) 0 0 (omega (arith, ltb-true)))
+  | then-word-lt1 w ↦ omega (arith, getD-past (c .args .word .now) 0 0 (omega (arith, ltb-true)))
   | else-word-lt1·in-rest· w ↦ omega arith
-  ]
+]
 
 as-read : (c : Joined-word-lt1) → argument (holds (c .args .names .now)) (c .args .at) (c .args .word .now) ≡ as-bytes (c .args .at) (reading (c .args .word .now))
 as-read c = is-read (holds (c .args .names .now)) (c .args .at) (c .args .word .now) (λ e. both-ways _ (c .if-eq .left) (matches-decides _ _ _ (c .eq .ensures) .1 e)) (no-dollar c)

@@ -18,7 +18,7 @@ step : (w : List ℕ) (i : ℕ) (b : Bool) → i < length commands → sameBytes
     called (drop i commands) w ≡ cond b (Some (getD commands i Digest)) (called (drop (i + 1) commands) w)
 step w i b h e =
     let one : called (drop i commands) w ≡ cond (sameBytes (word-of (getD commands i Digest)) w) (Some (getD commands i Digest)) (called (drop (i + 1) commands) w) =
-          at-drop-more (λ cs. called cs w) commands i Digest h in
+    at-drop-more (λ cs. called cs w) commands i Digest h in
     one ∙ ap (λ v. cond v (Some (getD commands i Digest)) (called (drop (i + 1) commands) w)) e
 
 pub returns-then-eq : need.returns-then-eq

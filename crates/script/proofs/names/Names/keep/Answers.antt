@@ -22,7 +22,7 @@ returns-in-Break-push c =
     rw (p .1) (
       (λ other. ap (λ es. found es other) (c .in-Break-push .ensures tt .items)),
       found-none _ _ new,
-      c .in-Break-push .ensures tt .cases
+      c .in-Break-push .ensures tt .cases,
     )
 
 pub returns : need.returns
