@@ -1,4 +1,5 @@
 -- The line that is printed for a report.
+use mathlib.Core.Path.{_≡_}
 use mathlib.Core.Bool.{Bool, true, false}
 use mathlib.Core.List.{List, [], _∷_}
 use Prim.Native.Nat.{ℕ}
@@ -10,7 +11,8 @@ use Rattle.std.specs.Of.Vec.{vec-items}
 use Rattle.std.specs.Written.{decimal}
 use Rattle.std.specs.declared.result.Result.{Result}
 use Rattle.std.specs.declared.result.Result.the-variants.{Ok, Err}
-use Rattle.text.specs.Hexadecimal.{written}
+use Rattle.text.specs.Hexadecimal as hex
+use Rattle.script.specs.Arguments.{Table, argument}
 use Rattle.script.specs.Commands.{word-of}
 use Rattle.script.specs.declared.answers.Answer.{Answer}
 use Rattle.script.specs.declared.answers.Answer.the-variants.{Done, Number, Flag, Bytes}
@@ -23,7 +25,7 @@ row ts = joined (λ t. t) ts
 -- bytes as a script writes them: `-` for none
 abbrev pub in-script : List ℕ → List ℕ
 in-script [] = codes "-"
-in-script (b ∷ bs) = written (b ∷ bs)
+in-script (b ∷ bs) = hex.written (b ∷ bs)
 
 abbrev pub yes-no : Bool → List ℕ
 yes-no true = codes "yes"
@@ -57,3 +59,8 @@ told (Err f) = codes ": fault " ∷ decimal (f .number) ∷ codes " " ∷ layer-
 -- `COMMAND: ok`, `COMMAND: ok ANSWER` or `COMMAND: fault NUMBER LAYER item ITEM`
 abbrev pub printed : Report → List ℕ
 printed r = row (word-of (r .command) ∷ told (outcome-of (r .outcome)))
+
+-- The law of answers: bytes that a report prints stand for themselves as a word of a later line, whatever is
+-- kept under names.
+abbrev pub Answers-are-arguments : Type 0
+Answers-are-arguments = (table : Table) (at : ℕ) (bs : List ℕ) → hex.Bytes bs → argument table at (in-script bs) ≡ Ok bs

@@ -1,7 +1,7 @@
 // What a command answered, and the line that is printed for it.
 ghost use mathlib.Core.Path.{_≡_};
 ghost use Rattle.text.specs.Appending.{Appends};
-ghost use Rattle.script.specs.Reports.{printed};
+ghost use Rattle.script.specs.Reports.{printed, Answers-are-arguments};
 use crate::commands::Command;
 use faults::Refusal;
 use std::alloc::AllocError;
@@ -64,3 +64,8 @@ impl Report {
         }
     }
 }
+
+// Bytes that are printed can be written in a later line, and stand for themselves there.
+pub fn answers_are_arguments()
+    ensures { λ _. ⌜ Answers-are-arguments ⌝ }
+{}
