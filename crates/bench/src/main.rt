@@ -14,6 +14,9 @@ use std::io::BufReader;
 use std::io::ErrorKind;
 use std::io::Write;
 
+#[cfg(test)]
+mod cases;
+
 // Prints the line of a report, which is made in `line`.
 fn print(rt: &LibcRuntime, report: &Report, line: &mut Vec<u8>) -> io::Result<()> {
     line.clear();
