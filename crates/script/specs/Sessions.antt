@@ -116,10 +116,14 @@ Stores name o before after (Err f) = (f ≡ Memory) × ((n : List ℕ) → after
 abbrev pub Tells : Step → Report → Type 0
 Tells s r = (r .command ≡ s .command) × (outcome-of (r .outcome) ≡ s .outcome)
 
--- A line is carried out as it means: it is reported and what it keeps is kept, or it is refused and nothing
--- changes. Where memory is wanting nothing changes either.
-abbrev pub Carries : Result (Option Step) LineFault → Table → Table → Result (Option Report) LineFault → Type 0
-Carries m before after (Ok None) = (m ≡ Ok None) × ((n : List ℕ) → after n ≡ before n)
-Carries m before after (Ok (Some r)) =
-    (s : Step) × (m ≡ Ok (Some s)) × Tells s r × ((n : List ℕ) → after n ≡ kept (s .name) (s .outcome) before n)
-Carries m before after (Err f) = ((f ≡ Memory) ⊎ (m ≡ Err f)) × ((n : List ℕ) → after n ≡ before n)
+-- a line that calls a command, and so may want memory
+abbrev pub Calls : List (List ℕ) → Type 0
+Calls ws = (p : Parts) × (statement ws ≡ Ok (Some p))
+
+-- A line is carried out as its words mean: it is reported and what it keeps is kept, or it is refused and
+-- nothing changes. Where a command finds no memory nothing changes either.
+abbrev pub Carries : List (List ℕ) → Table → Table → Result (Option Report) LineFault → Type 0
+Carries ws before after (Ok None) = (meaning before ws ≡ Ok None) × ((n : List ℕ) → after n ≡ before n)
+Carries ws before after (Ok (Some r)) =
+    (s : Step) × (meaning before ws ≡ Ok (Some s)) × Tells s r × ((n : List ℕ) → after n ≡ kept (s .name) (s .outcome) before n)
+Carries ws before after (Err f) = (((f ≡ Memory) × Calls ws) ⊎ (meaning before ws ≡ Err f)) × ((n : List ℕ) → after n ≡ before n)

@@ -49,7 +49,7 @@ pub impl fmt::Display for LineFault as LineFaultDisplay {
                 let character = place.saturating_add(1);
                 write!(
                     f,
-                    "word {word}, character {character}: bytes are pairs of digits, 0 to 9 and a to f"
+                    "word {word}, character {character}: wanted is a digit, 0 to 9 or a to f, two for each byte"
                 )
             }
             LineFault::UnknownName { word } => write!(

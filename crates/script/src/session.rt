@@ -8,7 +8,7 @@ ghost use Rattle.std.specs.declared.result.Result.the-variants.{Ok};
 ghost use Rattle.text.specs.Lines.{left, line-words};
 ghost use Rattle.script.specs.Kept.{holds};
 ghost use Rattle.script.specs.Reports.{outcome-of};
-ghost use Rattle.script.specs.Sessions.{says, wired, meaning, at-end, Answers, Brings, Stores, Carries};
+ghost use Rattle.script.specs.Sessions.{says, wired, at-end, Answers, Brings, Stores, Carries};
 ghost use Rattle.script.specs.Statements.{command-at};
 use crate::answers::Answer;
 use crate::answers::Report;
@@ -45,7 +45,7 @@ impl Session {
 
     // Carries out a line, and answers its report; none, where the line has no words.
     pub fn carry_out(&mut self, line: &[u8]) -> Result<Option<Report>, LineFault>
-        ensures { λ r. ⌜ Carries (meaning (holds (now (self .entry) .names)) (line-words (now (line .entry)))) (holds (now (self .entry) .names)) (holds (now (self .exit) .names)) r ⌝ }
+        ensures { λ r. ⌜ Carries (line-words (now (line .entry))) (holds (now (self .entry) .names)) (holds (now (self .exit) .names)) r ⌝ }
     {
         let Some(statement) = statements::parse(line)? else {
             return Ok(None);
