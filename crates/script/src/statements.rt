@@ -22,7 +22,7 @@ pub struct Statement<'a> {
 }
 
 // Which word of the line is the command: the first, or the third where there is a name.
-pub fn command_at(name: Option<&[u8]>) -> usize
+pub(crate) fn command_at(name: Option<&[u8]>) -> usize
     ensures { λ r. ⌜ r ≡ command-at (mapped now (name .entry)) ⌝ }
 {
     if name.is_some() { 3 } else { 1 }
