@@ -1,14 +1,13 @@
 -- Weighted sums: what a sum that has come so far will answer over the rest, and what it is by its elements.
-use mathlib.Core.Path.{_≡_, refl, sym, ap, _∙_, subst}
-use mathlib.Core.Bool.{Bool, true, false, cond}
-use mathlib.Core.List.{List, [], _∷_, _++_, append-assoc, append-nil}
+use mathlib.Core.Path.{_≡_, refl, sym, ap, _∙_}
+use mathlib.Core.Bool.{cond}
+use mathlib.Core.List.{List, [], _∷_, _++_, append-assoc, map}
 use Prim.Native.Nat.{ℕ, zero, suc, _+_, _-_, _*_, _/_, _%_, _<_, _≤_}
 use native.Mathlib.Nat.{add-zero, add-suc, suc-add, mul-comm, suc-mul, zero-mul, mod-add-div, le-of-mul-le-mul-right, mul-le-mul-right, add-sub-cancel-left}
 use native.Mathlib.Numerals.{one-add, add-one}
 use Rattle.std.proofs.shelf.Bits.{div-mul-add, mod-mul-add}
 use native.Mathlib.Omega.{arith}
-use lib.Dec.{eqb}
-use lib.ListN.{length, take, drop, getD, length-append}
+use lib.ListN.{length, take, drop, getD, length-append, drop-of-length-le}
 use lib.Seq.{take-at, drop-at, drop-cons, drop-drop}
 use borrow.Author.Tests.{eq-eqb}
 use Rattle.std.proofs.shelf.Tests.{ne-eqb}
@@ -23,11 +22,12 @@ use Rattle.faults.specs.declared.GroupFault.the-variants.{NoElement}
 use Rattle.group.specs.Model.{Model}
 use Rattle.group.specs.Elements.{null, sum, multiple}
 use Rattle.group.specs.Weighted.{put, led, elements, weighed, weighted, summed, weighted-sum}
-use Rattle.group.specs.Theorems.{Lawful, row, Weighs}
+use Rattle.group.specs.Theorems.{row, Weighs}
 use Rattle.group.specs.declared.SumFault.{SumFault}
 use Rattle.group.specs.declared.SumFault.the-variants.{Wire, Item}
 use Rattle.group.proofs.Logs.{sum-at}
-use Rattle.group.proofs.Laws.{lawful}
+use Rattle.scalar.proofs.Reckoning.{reckons}
+use Rattle.group.proofs.Laws.{lawful, multiple-null}
 
 -- what a decoder answered, as what the bytes stand for
 pub some-from-ok : {X : Type 0} (o : Option X) (x : X) (e : GroupFault) → Ok x ≡ okOr o e → o ≡ Some x
@@ -63,6 +63,15 @@ module _ {E S K : Type 0} (m : Model E S K) where
   unfolding weighted null
   empty = refl
 
+  no-weights : (ps : List E) → weighted m [] ps ≡ null m
+  unfolding weighted null
+  no-weights ps = refl
+
+  no-items : (ss : List S) → weighted m ss [] ≡ null m
+  unfolding weighted null
+  no-items [] = refl
+  no-items (s ∷ ss) = refl
+
   more : (s : S) (ss : List S) (p : E) (ps : List E) → weighted m (s ∷ ss) (p ∷ ps) ≡ sum m (multiple m s p) (weighted m ss ps)
   unfolding weighted multiple
   more s ss p ps = sym (sum-at m (m .scalars .number s * m .log p) (weighed m ss ps))
@@ -92,8 +101,14 @@ module _ {E S K : Type 0} (m : Model E S K) where
   onward-none total i codes s ss e =
       ap (λ o. onward-by total (s ∷ ss) (led i o (elements m (suc i) (length ss) (drop (m .element-width) codes)))) e
 
-  pub onward-end : (total : E) (i : ℕ) (codes : List ℕ) → onward total i codes [] ≡ Ok total
+  onward-end : (total : E) (i : ℕ) (codes : List ℕ) → onward total i codes [] ≡ Ok total
   onward-end total i codes = ap (λ x. Ok x) (ap (λ y. sum m total y) empty ∙ lawful m .neutral total)
+
+  -- with all scalars used, the total is the answer
+  pub ended : (total : E) (i : ℕ) (codes : List ℕ) (scalars : List S) (answer : Result E SumFault) → length scalars ≤ i →
+      onward total (suc i) codes (drop i scalars) ≡ answer → Ok total ≡ answer
+  ended total i codes scalars answer h inv =
+      sym (ap (λ ss. onward total (suc i) codes ss) (drop-of-length-le scalars {i = i} h) ∙ onward-end total (suc i) codes) ∙ inv
 
   start-by : (ss : List S) (r : Result (List E) ℕ) → onward-by (null m) ss r ≡ summed m ss r
   start-by ss (Ok ps) = ap (λ x. Ok x) (lawful m .swapped (null m) (weighted m ss ps) ∙ lawful m .neutral (weighted m ss ps))
@@ -117,7 +132,7 @@ module _ {E S K : Type 0} (m : Model E S K) where
     part : take (at + w - at) (drop at codes) ≡ take (m .element-width) (drop at codes)
     part = ap (λ (n : ℕ). take n (drop at codes)) (add-sub-cancel-left at w ∙ width)
 
-    pub next-item : (s : S) (p : E) → s ≡ getD scalars i s → Ok p ≡ okOr (m .element (take (at + w - at) (drop at codes))) NoElement →
+    next-item : (s : S) (p : E) → s ≡ getD scalars i s → Ok p ≡ okOr (m .element (take (at + w - at) (drop at codes))) NoElement →
         onward total (suc i) (drop at codes) (drop i scalars) ≡
         onward (sum m total (multiple m s p)) (suc (i + 1)) (drop (at + w) codes) (drop (i + 1) scalars)
     next-item s p e d =
@@ -129,6 +144,13 @@ module _ {E S K : Type 0} (m : Model E S K) where
         ap (λ bs. onward (sum m total (multiple m s p)) (suc (suc i)) bs (drop (suc i) scalars)) (drop-drop (m .element-width) at codes ∙ ap (λ (n : ℕ). drop (at + n) codes) (sym width)) ∙
         ap (λ (n : ℕ). onward (sum m total (multiple m s p)) (suc n) (drop (at + w) codes) (drop n scalars)) (sym one)
 
+    -- the same, with what the calls answered
+    pub turned : (s : S) (p x y : E) (answer : Result E SumFault) → s ≡ getD scalars i s →
+        Ok p ≡ okOr (m .element (take (at + w - at) (drop at codes))) NoElement → x ≡ multiple m s p → y ≡ sum m total x →
+        onward total (suc i) (drop at codes) (drop i scalars) ≡ answer → onward y (suc (i + 1)) (drop (at + w) codes) (drop (i + 1) scalars) ≡ answer
+    turned s p x y answer e d f g inv =
+        ap (λ t. onward t (suc (i + 1)) (drop (at + w) codes) (drop (i + 1) scalars)) (g ∙ ap (sum m total) f) ∙ sym (next-item s p e d) ∙ inv
+
     pub bad-item : (d : GroupFault) → Err d ≡ okOr (m .element (take (at + w - at) (drop at codes))) NoElement →
         Err (Item (i + 1) d) ≡ onward total (suc i) (drop at codes) (drop i scalars)
     bad-item d e =
@@ -139,12 +161,12 @@ module _ {E S K : Type 0} (m : Model E S K) where
         sym (ap (λ ss. onward total (suc i) (drop at codes) ss) (here .1) ∙
         onward-none total (suc i) (drop at codes) (here .0) (drop (suc i) scalars) (sym (ap (m .element) part) ∙ none .0))
 
-  row-length : (ps : List E) → length (row m ps) ≡ length ps * m .element-width
+  pub row-length : (ps : List E) → length (row m ps) ≡ length ps * m .element-width
   row-length [] = sym (zero-mul (m .element-width))
   row-length (p ∷ ps) =
       length-append (m .code p) (row m ps) ∙ omega (arith, m .coded p, row-length ps, suc-mul (length ps) (m .element-width))
 
-  elements-row : (i : ℕ) (ps : List E) → elements m i (length ps) (row m ps) ≡ Ok ps
+  pub elements-row : (i : ℕ) (ps : List E) → elements m i (length ps) (row m ps) ≡ Ok ps
   elements-row i [] = refl
   elements-row i (p ∷ ps) =
       let w = m .element-width in
@@ -185,5 +207,19 @@ module _ {E S K : Type 0} (m : Model E S K) where
       fits (row m ps ++ (bad ++ rest)) ss h ∙ ap (summed m ss) (elements-bad 1 (length ss) ps bad rest l e long) ∙
       ap (λ (k : ℕ). Err (Item k NoElement)) (one-add (length ps))
 
+  -- the weighted sum of multiples is the multiple of the weighted sum
+  pub weighted-multiple : (k : S) (ss : List S) (ps : List E) → weighted m ss (map (multiple m k) ps) ≡ multiple m k (weighted m ss ps)
+  weighted-multiple k [] [] = empty ∙ sym (ap (λ x. multiple m k x) empty ∙ multiple-null m k)
+  weighted-multiple k [] (p ∷ ps) = no-weights (map (multiple m k) (p ∷ ps)) ∙ sym (ap (λ x. multiple m k x) (no-weights (p ∷ ps)) ∙ multiple-null m k)
+  weighted-multiple k (s ∷ ss) [] = no-items (s ∷ ss) ∙ sym (ap (λ x. multiple m k x) (no-items (s ∷ ss)) ∙ multiple-null m k)
+  weighted-multiple k (s ∷ ss) (p ∷ ps) =
+      let law = lawful m in
+      let field = reckons (m .scalars) in
+      more s ss (multiple m k p) (map (multiple m k) ps) ∙
+      ap (λ x. sum m x (weighted m ss (map (multiple m k) ps)))
+      (sym (law .twice s k p) ∙ ap (λ t. multiple m t p) (field .products-swapped s k) ∙ law .twice k s p) ∙
+      ap (λ x. sum m (multiple m k (multiple m s p)) x) (weighted-multiple k ss ps) ∙ sym (law .spread k (multiple m s p) (weighted m ss ps)) ∙
+      ap (λ x. multiple m k x) (sym (more s ss p ps))
+
   pub weighs : Weighs m
-  weighs = record { empty = empty; more = more; whole = whole; first = first }
+  weighs = record { empty = empty; more = more; carried = weighted-multiple; whole = whole; first = first }

@@ -1,7 +1,7 @@
 -- Numbers in bytes, the high byte first.
 use mathlib.Core.Bool.{Bool, true, _&&_}
 use mathlib.Core.List.{List, [], _∷_, _++_}
-use Prim.Native.Nat.{ℕ, zero, suc, _+_, _*_, _/_, _%_}
+use Prim.Native.Nat.{ℕ, zero, suc, _/_, _%_}
 use lib.Dec.{ltb}
 use lib.ListN.{take}
 use Rattle.std.specs.shelf.Digits.{number}
@@ -20,6 +20,10 @@ read bytes = number 256 bytes
 abbrev pub written : ℕ → ℕ → List ℕ
 written zero n = []
 written (suc width) n = written width (n / 256) ++ (n % 256 ∷ [])
+
+-- a number in two bytes
+abbrev pub two-bytes : ℕ → List ℕ
+two-bytes n = (n / 256 % 256) ∷ (n % 256) ∷ []
 
 -- the number in the first 8 bytes: one word
 unfoldable pub word : List ℕ → ℕ

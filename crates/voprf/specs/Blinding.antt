@@ -4,7 +4,7 @@ use mathlib.Core.List.{List}
 use Prim.Native.Nat.{ℕ}
 use Rattle.group.specs.Model.{Model}
 use Rattle.group.specs.Elements.{null, base-multiple, multiple}
-use Rattle.voprf.specs.Hashing.{hash-to-group, authenticator}
+use Rattle.hashing.specs.Hashing.{hash-to-group, authenticator}
 
 module _ {E S K : Type 0} (m : Model E S K) where
   -- the public key of a key

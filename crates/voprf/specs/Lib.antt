@@ -1,3 +1,2 @@
-pub mod Hashing
-pub mod Appending
 pub mod Blinding
+pub mod Proving

@@ -1,0 +1,3 @@
+pub mod Sets
+pub mod Facts
+pub mod Worked

@@ -1,0 +1,4 @@
+pub mod Meaning
+pub mod Runs
+pub mod Laws
+pub mod Making

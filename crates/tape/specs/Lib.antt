@@ -1,0 +1,4 @@
+pub mod Layout
+pub mod Facts
+pub mod Laws
+pub mod Books
