@@ -67,14 +67,7 @@ module _ {E S K : Type 0} (m : Model E S K) where
   -- M and W: the weighted sums of what was sent and of what was answered
   unfoldable pub composites : E → List ℕ → List ℕ → Result (E × E) BatchFault
   composites pk bs es =
-<<<<<<< HEAD
-      cond (paired bs es)
-      (and-then (weighted-sum m bs (weights pk (count bs) bs es)) (λ sent.
-      and-then (weighted-sum m es (weights pk (count bs) bs es)) (λ got. Ok (sent, got))))
-      (Err (BatchWire WrongLength))
-=======
       cond (paired bs es) (steps (seed pk) 0 (count bs) bs es (null m, null m)) (Err (BatchWire WrongLength))
->>>>>>> main
 
   -- the hash that ties a proof to its key, its composites and its two commitments
   unfoldable pub challenge : E → E → E → E → E → S
