@@ -1,0 +1,5 @@
+pub mod Logic
+pub mod Steps
+pub mod Blocks
+pub mod Tail
+pub mod Roots

@@ -1,0 +1,4 @@
+pub mod Constants
+pub mod Words
+pub mod Padding
+pub mod Sha256

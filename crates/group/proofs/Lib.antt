@@ -1,0 +1,4 @@
+pub mod Logs
+pub mod Codes
+pub mod Laws
+pub mod Weighing

@@ -1,0 +1,4 @@
+pub mod Model
+pub mod Elements
+pub mod Weighted
+pub mod Theorems

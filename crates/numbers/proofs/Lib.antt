@@ -1,0 +1,9 @@
+pub mod Mod
+pub mod Table
+pub mod Primes
+pub mod Sought
+pub mod Powers
+pub mod Bytes
+pub mod Logarithms
+pub mod Codes
+pub mod Tabled

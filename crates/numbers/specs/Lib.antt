@@ -1,0 +1,5 @@
+pub mod Prime
+pub mod Bytes
+pub mod Sought
+pub mod Cycle
+pub mod Numbered

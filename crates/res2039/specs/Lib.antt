@@ -1,0 +1,5 @@
+pub mod Powers2039
+pub mod Elements
+pub mod Laws
+pub mod Kind
+pub mod Worked

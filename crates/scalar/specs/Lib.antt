@@ -1,0 +1,5 @@
+pub mod Scalars
+pub mod Inverse
+pub mod Laws
+pub mod Modulo
+pub mod Theorems

@@ -1,0 +1,2 @@
+pub mod Blinding
+pub mod Proving
