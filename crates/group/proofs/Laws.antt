@@ -1,16 +1,16 @@
 -- The theorems on elements and scalars, from the laws of a model alone.
 use mathlib.Core.Path.{_≡_, refl, sym, ap, _∙_, subst}
-use mathlib.Core.List.{List, [], _∷_}
-use Prim.Native.Nat.{ℕ, zero, suc, _+_, _-_, _*_, _%_, _<_, _≤_}
-use native.Mathlib.Nat.{mod-lt, mod-eq-of-lt, mod-self, mod-add-mod, add-mod-mod, mul-assoc, mul-comm, mul-one, mul-add, add-mul, add-assoc, add-comm, zero-mul, zero-mod}
+use Prim.Native.Nat.{ℕ, _+_, _-_, _*_, _%_, _<_}
+use native.Mathlib.Nat.{mod-lt, mod-eq-of-lt, mod-self, mul-assoc, mul-comm, mul-one, mul-add, add-mul, add-assoc, add-comm, zero-mul, zero-mod, mul-zero, one-mul}
 use native.Mathlib.Omega.{arith}
-use Rattle.std.specs.declared.option.Option.the-variants.{Some, None}
+use Rattle.std.specs.declared.option.Option.the-variants.{Some}
 use Rattle.numbers.proofs.Mod.{mod-mul-left, mod-mul-right, undone}
-use Rattle.scalar.specs.Scalars.{Scalars, added, multiplied}
+use Rattle.scalar.specs.Scalars.{added, subtracted, multiplied}
+use Rattle.scalar.proofs.Reckoning.{reckons}
 use Rattle.group.specs.Model.{Model}
 use Rattle.group.specs.Elements.{null, generator, sum, opposite, base-multiple, multiple}
 use Rattle.group.specs.Theorems.{Lawful, Unblinds, One-scalar}
-use Rattle.group.proofs.Logs.{order-positive, by-log, at-own-log, same-remainder, log-null, log-generator, log-sum, log-opposite, log-multiple, sum-at, sum-at-right}
+use Rattle.group.proofs.Logs.{order-positive, at-own-log, same-remainder, log-null, log-generator, log-multiple, sum-at}
 use Rattle.group.proofs.Codes.{one-code}
 
 module _ {E S K : Type 0} (m : Model E S K) where
@@ -129,6 +129,30 @@ module _ {E S K : Type 0} (m : Model E S K) where
       undone q a i x one (mod-lt (b * l) (order-positive m)) in
       ap (λ y. multiple m (m .scalars .inverse s) y) inner ∙ multiple-at (m .scalars .inverse s) (b * (a * l)) ∙
       same-remainder m (i * (b * (a * l))) (b * l) order ∙ sym (product-at k p)
+
+  -- the response u - c k and the challenge c, over an element and its multiple by k, make up u
+  pub responds : (u c k : S) (x : E) →
+      sum m (multiple m (subtracted (m .scalars) u (multiplied (m .scalars) c k)) x) (multiple m c (multiple m k x)) ≡ multiple m u x
+  responds u c k x =
+      let ck = multiplied (m .scalars) c k in
+      ap (λ y. sum m (multiple m (subtracted (m .scalars) u ck) x) y) (sym (twice c k x)) ∙ sym (shared (subtracted (m .scalars) u ck) ck x) ∙
+      ap (λ t. multiple m t x) (reckons (m .scalars) .undone u ck)
+
+  pub multiple-null : (s : S) → multiple m s (null m) ≡ null m
+  unfolding null
+  multiple-null s = multiple-at s 0 ∙ ap (m .at-log) (mul-zero (m .scalars .number s))
+
+  -- a nonzero scalar takes only the null to the null
+  pub only-null : (k : K) (x : E) → multiple m (m .scalars .part k) x ≡ null m → x ≡ null m
+  only-null k x e =
+      let s = m .scalars .part k in
+      let i = m .scalars .inverse s in
+      let one : multiplied (m .scalars) i s ≡ m .scalars .scalar 1 =
+      reckons (m .scalars) .products-swapped i s ∙ reckons (m .scalars) .inverted s (m .scalars .positive k) in
+      let low = m .scalars .low in
+      let number : m .scalars .number (m .scalars .scalar 1) ≡ 1 = m .scalars .full 1 ∙ mod-eq-of-lt (omega arith) in
+      at-own-log m x ∙ ap (m .at-log) (sym (one-mul (m .log x)) ∙ ap (λ (n : ℕ). n * m .log x) (sym number)) ∙ sym (product-at (m .scalars .scalar 1) x) ∙
+      ap (λ t. multiple m t x) (sym one) ∙ twice i s x ∙ ap (λ y. multiple m i y) e ∙ multiple-null i
 
 -- what takes an element to another, by the logarithms
 module _ (q : ℕ) (l i : ℕ) (one : (l * i) % q ≡ 1) where

@@ -1,15 +1,14 @@
 -- What the steps with elements do to logarithms.
-use mathlib.Core.Path.{_≡_, refl, sym, ap, _∙_, subst}
-use mathlib.Core.Bool.{Bool, true, false}
-use Prim.Native.Nat.{ℕ, zero, suc, _+_, _-_, _*_, _/_, _%_, _^_, _<_, _≤_}
-use native.Mathlib.Nat.{mod-lt, mod-eq-of-lt, mod-mod, zero-mod, mod-add-mod, add-mod-mod, mod-add-div, zero-mul, add-mul, div-eq-of-lt, div-one, lt-of-lt-of-le}
+use mathlib.Core.Path.{_≡_, sym, ap, _∙_, subst}
+use mathlib.Core.Bool.{true, false}
+use Prim.Native.Nat.{ℕ, _+_, _-_, _*_, _/_, _%_, _^_, _<_, _≤_}
+use native.Mathlib.Nat.{mod-eq-of-lt, zero-mod, mod-add-mod, add-mod-mod, zero-mul, add-mul, div-eq-of-lt, div-one, lt-of-lt-of-le}
 use native.Mathlib.Omega.{arith}
-use lib.Dec.{eqb}
 use borrow.Author.Tests.{eqb-true, eqb-false}
 use Rattle.std.proofs.shelf.Bits.{shr-shr}
-use Rattle.numbers.proofs.Mod.{half-odd, half-even, mod-mul-left, mod-mul-right}
+use Rattle.numbers.proofs.Mod.{half-odd, half-even}
 use Rattle.numbers.proofs.Powers.{pow-mul}
-use Rattle.scalar.specs.Scalars.{Scalars, bit-at}
+use Rattle.scalar.specs.Scalars.{bit-at}
 use Rattle.group.specs.Model.{Model}
 use Rattle.group.specs.Elements.{null, generator, sum, opposite, base-multiple, multiple}
 

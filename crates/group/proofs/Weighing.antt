@@ -1,13 +1,12 @@
 -- Weighted sums: what a sum that has come so far will answer over the rest, and what it is by its elements.
-use mathlib.Core.Path.{_≡_, refl, sym, ap, _∙_, subst}
-use mathlib.Core.Bool.{Bool, true, false, cond}
-use mathlib.Core.List.{List, [], _∷_, _++_, append-assoc, append-nil}
+use mathlib.Core.Path.{_≡_, refl, sym, ap, _∙_}
+use mathlib.Core.Bool.{cond}
+use mathlib.Core.List.{List, [], _∷_, _++_, append-assoc, map}
 use Prim.Native.Nat.{ℕ, zero, suc, _+_, _-_, _*_, _/_, _%_, _<_, _≤_}
 use native.Mathlib.Nat.{add-zero, add-suc, suc-add, mul-comm, suc-mul, zero-mul, mod-add-div, le-of-mul-le-mul-right, mul-le-mul-right, add-sub-cancel-left}
 use native.Mathlib.Numerals.{one-add, add-one}
 use Rattle.std.proofs.shelf.Bits.{div-mul-add, mod-mul-add}
 use native.Mathlib.Omega.{arith}
-use lib.Dec.{eqb}
 use lib.ListN.{length, take, drop, getD, length-append}
 use lib.Seq.{take-at, drop-at, drop-cons, drop-drop}
 use borrow.Author.Tests.{eq-eqb}
@@ -23,11 +22,12 @@ use Rattle.faults.specs.declared.GroupFault.the-variants.{NoElement}
 use Rattle.group.specs.Model.{Model}
 use Rattle.group.specs.Elements.{null, sum, multiple}
 use Rattle.group.specs.Weighted.{put, led, elements, weighed, weighted, summed, weighted-sum}
-use Rattle.group.specs.Theorems.{Lawful, row, Weighs}
+use Rattle.group.specs.Theorems.{row, Weighs}
 use Rattle.group.specs.declared.SumFault.{SumFault}
 use Rattle.group.specs.declared.SumFault.the-variants.{Wire, Item}
 use Rattle.group.proofs.Logs.{sum-at}
-use Rattle.group.proofs.Laws.{lawful}
+use Rattle.scalar.proofs.Reckoning.{reckons}
+use Rattle.group.proofs.Laws.{lawful, multiple-null}
 
 -- what a decoder answered, as what the bytes stand for
 pub some-from-ok : {X : Type 0} (o : Option X) (x : X) (e : GroupFault) → Ok x ≡ okOr o e → o ≡ Some x
@@ -62,6 +62,15 @@ module _ {E S K : Type 0} (m : Model E S K) where
   empty : weighted m [] [] ≡ null m
   unfolding weighted null
   empty = refl
+
+  no-weights : (ps : List E) → weighted m [] ps ≡ null m
+  unfolding weighted null
+  no-weights ps = refl
+
+  no-items : (ss : List S) → weighted m ss [] ≡ null m
+  unfolding weighted null
+  no-items [] = refl
+  no-items (s ∷ ss) = refl
 
   more : (s : S) (ss : List S) (p : E) (ps : List E) → weighted m (s ∷ ss) (p ∷ ps) ≡ sum m (multiple m s p) (weighted m ss ps)
   unfolding weighted multiple
@@ -185,5 +194,19 @@ module _ {E S K : Type 0} (m : Model E S K) where
       fits (row m ps ++ (bad ++ rest)) ss h ∙ ap (summed m ss) (elements-bad 1 (length ss) ps bad rest l e long) ∙
       ap (λ (k : ℕ). Err (Item k NoElement)) (one-add (length ps))
 
+  -- the weighted sum of multiples is the multiple of the weighted sum
+  pub weighted-multiple : (k : S) (ss : List S) (ps : List E) → weighted m ss (map (multiple m k) ps) ≡ multiple m k (weighted m ss ps)
+  weighted-multiple k [] [] = empty ∙ sym (ap (λ x. multiple m k x) empty ∙ multiple-null m k)
+  weighted-multiple k [] (p ∷ ps) = no-weights (map (multiple m k) (p ∷ ps)) ∙ sym (ap (λ x. multiple m k x) (no-weights (p ∷ ps)) ∙ multiple-null m k)
+  weighted-multiple k (s ∷ ss) [] = no-items (s ∷ ss) ∙ sym (ap (λ x. multiple m k x) (no-items (s ∷ ss)) ∙ multiple-null m k)
+  weighted-multiple k (s ∷ ss) (p ∷ ps) =
+      let law = lawful m in
+      let field = reckons (m .scalars) in
+      more s ss (multiple m k p) (map (multiple m k) ps) ∙
+      ap (λ x. sum m x (weighted m ss (map (multiple m k) ps)))
+      (sym (law .twice s k p) ∙ ap (λ t. multiple m t p) (field .products-swapped s k) ∙ law .twice k s p) ∙
+      ap (λ x. sum m (multiple m k (multiple m s p)) x) (weighted-multiple k ss ps) ∙ sym (law .spread k (multiple m s p) (weighted m ss ps)) ∙
+      ap (λ x. multiple m k x) (sym (more s ss p ps))
+
   pub weighs : Weighs m
-  weighs = record { empty = empty; more = more; whole = whole; first = first }
+  weighs = record { empty = empty; more = more; carried = weighted-multiple; whole = whole; first = first }

@@ -1,5 +1,5 @@
 -- What the steps with elements answer, told by logarithms.
-use Prim.Native.Nat.{ℕ, _+_, _-_, _*_}
+use Prim.Native.Nat.{_+_, _-_, _*_}
 use Rattle.group.specs.Model.{Model}
 
 module _ {E S K : Type 0} (m : Model E S K) where

@@ -1,6 +1,6 @@
 -- What holds in every kind of group, in the words of the subject.
 use mathlib.Core.Path.{_≡_}
-use mathlib.Core.List.{List, [], _∷_, _++_}
+use mathlib.Core.List.{List, [], _∷_, _++_, map}
 use Prim.Native.Nat.{ℕ, suc, _*_}
 use lib.ListN.{length}
 use Rattle.std.specs.declared.option.Option.the-variants.{None}
@@ -40,11 +40,13 @@ abbrev pub row : {E S K : Type 0} → Model E S K → List E → List ℕ
 row m [] = []
 row m (p ∷ ps) = m .code p ++ row m ps
 
--- A weighted sum of no elements is null, and each element more adds its multiple. Over the codes of as many
--- elements as there are scalars it is that of the elements; where a code is none, it tells the first such item.
+-- A weighted sum of no elements is null, and each element more adds its multiple; of multiples by k it is the
+-- multiple by k. Over the codes of as many elements as there are scalars it is that of the elements; where bytes
+-- are no code, it tells the first such item.
 pub record Weighs {E S K : Type 0} (m : Model E S K) : Type 0 where
   pub empty : weighted m [] [] ≡ null m
   pub more : (s : S) (ss : List S) (p : E) (ps : List E) → weighted m (s ∷ ss) (p ∷ ps) ≡ sum m (multiple m s p) (weighted m ss ps)
+  pub carried : (k : S) (ss : List S) (ps : List E) → weighted m ss (map (multiple m k) ps) ≡ multiple m k (weighted m ss ps)
   pub whole : (ss : List S) (ps : List E) → length ps ≡ length ss → weighted-sum m (row m ps) ss ≡ Ok (weighted m ss ps)
   pub first : (ss : List S) (ps : List E) (bad rest : List ℕ) → length bad ≡ m .element-width → m .element bad ≡ None →
       length (row m ps ++ (bad ++ rest)) ≡ length ss * m .element-width →

@@ -2,7 +2,7 @@
 use mathlib.Core.Path.{_≡_, refl, sym, ap, _∙_, subst}
 use mathlib.Core.List.{List, [], _∷_, _++_}
 use Prim.Native.Nat.{ℕ, zero, suc, _+_, _*_, _/_, _%_, _^_, _<_, _≤_}
-use native.Mathlib.Nat.{mod-lt, mod-add-div, not-suc-le-zero, pow-zero, pow-suc}
+use native.Mathlib.Nat.{mod-lt, mod-add-div, pow-zero, pow-suc}
 use native.Mathlib.Numerals.{add-one}
 use native.Mathlib.Omega.{arith}
 use lib.Dec.{lit<}
@@ -13,7 +13,7 @@ use Rattle.std.proofs.shelf.Bits.{div-below, div-mul-add, mod-mul-add}
 use Rattle.std.proofs.shelf.Lists.{take-more}
 use Rattle.std.proofs.shelf.Elements.{all-push, all-getD}
 use lib.Seq.{take-all}
-use mathlib.Core.Bool.{Bool, true, _&&_}
+use mathlib.Core.Bool.{true}
 use mir.Val.{Fits}
 use mir.Syntax.{w8}
 use lib.Dec.{ltb}

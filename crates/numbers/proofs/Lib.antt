@@ -4,3 +4,6 @@ pub mod Primes
 pub mod Sought
 pub mod Powers
 pub mod Bytes
+pub mod Logarithms
+pub mod Codes
+pub mod Tabled

@@ -1,17 +1,16 @@
 -- Powers modulo p, and the logarithm in a cycle of powers.
-use mathlib.Core.Path.{_≡_, refl, sym, ap, _∙_, subst}
-use mathlib.Core.Bool.{Bool, true, false, cond}
-use mathlib.Core.Logic.{_⊎_, ⊎-elim}
+use mathlib.Core.Path.{_≡_, sym, ap, _∙_, subst}
+use mathlib.Core.Bool.{true}
 use Prim.Native.Nat.{ℕ, zero, suc, _+_, _-_, _*_, _/_, _%_, _^_, _<_, _≤_}
 use native.Mathlib.Omega.{arith}
 use native.Mathlib.Decide.{decLt}
 use borrow.Author.Tests.{eq-eqb}
 use Rattle.std.proofs.shelf.Tests.{eqb-true, and-parts}
-use native.Mathlib.Nat.{eq-or-lt-of-le, le-of-suc-le-suc, not-suc-le-zero, mul-zero, mul-suc, mul-one, one-mul, pow-zero, pow-suc, mod-add-div, mod-eq-of-lt, mod-lt, mul-comm, mul-assoc, mul-mul-mul-comm, pow-succ'}
+use native.Mathlib.Nat.{le-of-suc-le-suc, not-suc-le-zero, mul-zero, mul-suc, mul-one, one-mul, pow-zero, pow-suc, mod-add-div, mod-eq-of-lt, mod-lt, mul-comm, mul-assoc, mul-mul-mul-comm, pow-succ'}
 use lib.Pow.{pow-add}
 use lib.ListN.{length, getD}
 use mathlib.Core.List.{List, [], _∷_}
-use lib.Dec.{T, eqb, eqb→eq, eqb-refl}
+use lib.Dec.{T, eqb, eqb→eq}
 use Rattle.numbers.specs.Cycle.{Member, exponent, Cycle, stepwise, are-powers}
 use Rattle.numbers.proofs.Sought.{found}
 use Rattle.numbers.proofs.Mod.{mod-mul-left, mod-mul-right, half-odd, half-even}

@@ -1,7 +1,7 @@
 -- Numbers in bytes, the high byte first.
 use mathlib.Core.Bool.{Bool, true, _&&_}
 use mathlib.Core.List.{List, [], _∷_, _++_}
-use Prim.Native.Nat.{ℕ, zero, suc, _+_, _*_, _/_, _%_}
+use Prim.Native.Nat.{ℕ, zero, suc, _/_, _%_}
 use lib.Dec.{ltb}
 use lib.ListN.{take}
 use Rattle.std.specs.shelf.Digits.{number}

@@ -1,13 +1,13 @@
 -- What the steps of res2039 answer, told by the numbers.
-use mathlib.Core.Path.{_≡_, refl, sym, ap, _∙_, subst}
+use mathlib.Core.Path.{_≡_, sym, ap, _∙_}
 use mathlib.Core.List.{List, [], _∷_}
-use Prim.Native.Nat.{ℕ, _+_, _-_, _*_, _/_, _%_, _^_, _<_, _≤_}
-use native.Mathlib.Nat.{mod-eq-of-lt, mod-mod, mod-lt, mod-add-div}
+use Prim.Native.Nat.{ℕ, _+_, _-_, _*_, _/_, _%_, _^_, _<_}
+use native.Mathlib.Nat.{mod-eq-of-lt, mod-add-div}
 use native.Mathlib.Omega.{arith}
 use lib.Dec.{lit<}
 use lib.ListN.{length, getD}
 use Rattle.std.proofs.shelf.Bits.{div-mul-add, mod-mul-add}
-use Rattle.numbers.specs.Cycle.{Member, exponent}
+use Rattle.numbers.specs.Cycle.{exponent}
 use Rattle.numbers.proofs.Mod.{negated}
 use Rattle.numbers.proofs.Powers.{log-of, log-below, log-product, log-raised}
 use Rattle.scalar.specs.Modulo.{modulo}
@@ -15,8 +15,8 @@ use Rattle.scalar.specs.declared.modular.Scalar.{Scalar}
 use Rattle.group.specs.Elements.{null, generator, sum, opposite, base-multiple}
 use Rattle.group.proofs.Logs.{by-log}
 use Rattle.res2039.specs.Powers2039.{cycle}
-use Rattle.res2039.specs.Elements.{logarithm, power-of-4, code-of, element-of, mapped}
-use Rattle.res2039.specs.Laws.{order, coded}
+use Rattle.res2039.specs.Elements.{logarithm, code-of}
+use Rattle.res2039.specs.Laws.{coded}
 use Rattle.res2039.specs.Kind.{residues}
 use Rattle.res2039.specs.declared.residue.Residue.{Residue}
 

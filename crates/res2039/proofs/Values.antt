@@ -1,8 +1,8 @@
 -- The worked values, each computed.
-use mathlib.Core.Path.{_≡_, refl, ap, _∙_}
+use mathlib.Core.Path.{_≡_, refl, ap}
 use mathlib.Core.Bool.{true}
-use mathlib.Core.List.{List, [], _∷_}
-use Prim.Native.Nat.{ℕ, _+_, _*_, _%_, _^_}
+use mathlib.Core.List.{List}
+use Prim.Native.Nat.{ℕ, _+_, _*_, _%_}
 use Rattle.std.specs.declared.option.Option.the-variants.{Some, None}
 use Rattle.std.specs.shelf.Lists.{All}
 use Rattle.numbers.specs.Bytes.{written, word}
@@ -13,7 +13,7 @@ use Rattle.scalar.specs.Modulo.{modulo}
 use Rattle.scalar.specs.declared.modular.Scalar.{Scalar}
 use Rattle.group.specs.Elements.{multiple}
 use Rattle.res2039.specs.Powers2039.{tested-member}
-use Rattle.res2039.specs.Elements.{logarithm, power-of-4, code-of, element-of, mapped, is-member}
+use Rattle.res2039.specs.Elements.{logarithm, power-of-4, element-of, mapped, is-member}
 use Rattle.res2039.specs.Laws.{same-value}
 use Rattle.res2039.specs.Kind.{residues}
 use Rattle.res2039.specs.Worked.{multiples, refused, maps, orders, Takes, Ordered, Worked, scalar}

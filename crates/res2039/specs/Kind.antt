@@ -1,10 +1,7 @@
 -- What res2039 means.
-use mathlib.Core.List.{List}
-use Prim.Native.Nat.{ℕ}
 use lib.Chars.{codes}
 use lib.Dec.{lit<, lit≤}
 use Rattle.scalar.specs.Modulo.{modulo}
-use Rattle.scalar.specs.declared.order.Order.{Order}
 use Rattle.scalar.specs.declared.modular.Scalar.{Scalar}
 use Rattle.scalar.specs.declared.positive.NonZero.{NonZero}
 use Rattle.group.specs.Model.{Model}

@@ -6,14 +6,13 @@ use mathlib.Core.HLevel.{isProp→PathP, ×-prop}
 use native.Mathlib.Bridge.{le-prop}
 use native.Mathlib.Nat.{ℕ-set, mod-lt, mod-eq-of-lt, mod-add-div}
 use native.Mathlib.Omega.{arith}
-use Prim.Native.Nat.{ℕ, _+_, _*_, _/_, _%_, _^_, _<_}
+use Prim.Native.Nat.{ℕ, _%_, _^_, _<_}
 use lib.Dec.{eqb, ltb, lit<, lit≤}
-use lib.ListN.{length, getD}
+use lib.ListN.{length}
 use borrow.Author.Tests.{eq-eqb}
-use Rattle.std.proofs.shelf.Tests.{eqb-true, ltb-true, lt-ltb, and-from, and-parts}
-use Rattle.std.proofs.shelf.Bits.{div-below, div-mul-add, mod-mul-add}
+use Rattle.std.proofs.shelf.Tests.{eqb-true, lt-ltb, and-from, and-parts}
+use Rattle.std.proofs.shelf.Bits.{div-below}
 use Rattle.std.specs.shelf.Lists.{All}
-use Rattle.std.specs.declared.option.Option.{Option}
 use Rattle.std.specs.declared.option.Option.the-variants.{Some, None}
 use Rattle.numbers.specs.Bytes.{are-bytes, read, written}
 use Rattle.numbers.specs.Cycle.{Member}
@@ -22,7 +21,7 @@ use Rattle.numbers.proofs.Powers.{log-below, log-same, log-of}
 use Rattle.scalar.specs.Modulo.{modulo}
 use Rattle.scalar.specs.declared.order.Order.{Order}
 use Rattle.res2039.specs.Powers2039.{cycle, order-prime}
-use Rattle.res2039.specs.Elements.{logarithm, power-of-4, code-of, is-member, member-by, element-of, mapped}
+use Rattle.res2039.specs.Elements.{logarithm, power-of-4, code-of, is-member, member-by, element-of}
 use Rattle.res2039.specs.declared.residue.Residue.{Residue}
 
 -- 1019 is prime

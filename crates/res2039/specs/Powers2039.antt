@@ -2,11 +2,10 @@
 use mathlib.Core.Path.{_≡_, refl, sym, ap, _∙_, subst}
 use mathlib.Core.Bool.{Bool, true, false, not, _||_, _&&_}
 use mathlib.Core.List.{List, [], _∷_}
-use Prim.Native.Nat.{ℕ, zero, suc, _+_, _-_, _*_, _/_, _%_, _^_, _<_, _≤_}
+use Prim.Native.Nat.{ℕ, suc, _+_, _-_, _*_, _%_, _^_, _<_}
 use native.Mathlib.Omega.{arith}
 use lib.Dec.{T, eqb, ltb, eqb→eq, ltb→lt, lit<, T-not}
-use lib.ListN.{length, getD}
-use borrow.Author.Tests.{eq-eqb}
+use lib.ListN.{getD}
 use Rattle.std.proofs.shelf.Tests.{ltb-true, eqb-true, and-parts}
 use native.Mathlib.Nat.{mod-lt}
 use Rattle.numbers.specs.Prime.{Prime}

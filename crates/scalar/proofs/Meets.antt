@@ -2,26 +2,23 @@
 use mathlib.Core.Path.{_≡_, refl, sym, ap, _∙_, subst}
 use mathlib.Core.Bool.{Bool, true, false, cond, _&&_}
 use mathlib.Core.List.{List, [], _∷_}
-use Prim.Native.Nat.{ℕ, zero, suc, _+_, _*_, _/_, _%_, _^_, _<_, _≤_}
+use Prim.Native.Nat.{ℕ, _*_, _/_, _%_, _^_, _<_, _≤_}
 use native.Mathlib.Nat.{mod-eq-of-lt, div-eq-of-lt, lt-of-lt-of-le}
 use native.Mathlib.Omega.{arith}
 use lib.Dec.{eqb, ltb, leb}
-use lib.ListN.{length, getD}
+use lib.ListN.{length}
 use lib.Pow.{pow-mono}
 use borrow.Author.Tests.{eq-eqb}
 use Rattle.std.proofs.shelf.Tests.{eqb-true, ltb-true, cond-true, cond-false, le-leb, lt-leb, and-from, and-parts, lt-ltb}
 use Rattle.std.proofs.shelf.Bits.{div-below}
 use Rattle.std.specs.Options.{okOr}
-use Rattle.std.specs.declared.option.Option.{Option}
 use Rattle.std.specs.declared.option.Option.the-variants.{Some, None}
-use Rattle.std.specs.declared.result.Result.{Result}
 use Rattle.std.specs.declared.result.Result.the-variants.{Ok, Err}
-use Rattle.faults.specs.declared.GroupFault.{GroupFault}
 use Rattle.faults.specs.declared.GroupFault.the-variants.{NoScalar}
 use Rattle.numbers.specs.Bytes.{are-bytes, read, written}
-use Rattle.scalar.specs.Scalars.{Scalars, scalar-code, scalar-of, bit-at}
+use Rattle.scalar.specs.Scalars.{scalar-code, scalar-of, bit-at}
 use Rattle.scalar.specs.Inverse.{inverse-number}
-use Rattle.scalar.specs.Laws.{scalar-at, width-of, same-value, same-part, inverse-only, inverse-none, inverse-found, none, some}
+use Rattle.scalar.specs.Laws.{scalar-at, width-of, same-value, inverse-only, inverse-none, inverse-found, none}
 use Rattle.scalar.specs.Modulo.{modulo}
 use Rattle.scalar.specs.declared.order.Order.{Order}
 use Rattle.scalar.specs.declared.modular.Scalar.{Scalar}

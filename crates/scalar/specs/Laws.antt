@@ -12,7 +12,6 @@ use borrow.Author.Tests.{eq-eqb, leb-true}
 use Rattle.std.specs.declared.option.Option.{Option}
 use Rattle.std.specs.declared.option.Option.the-variants.{Some, None}
 use Rattle.numbers.specs.Prime.{Prime}
-use Rattle.numbers.specs.Sought.{sought}
 use Rattle.numbers.proofs.Mod.{mod-mul-left, mod-mul-right, nearer, positive}
 use Rattle.numbers.proofs.Sought.{found, not-found}
 use Rattle.scalar.specs.Inverse.{inverse-number}

@@ -2,3 +2,4 @@ pub mod Scalars
 pub mod Inverse
 pub mod Laws
 pub mod Modulo
+pub mod Theorems

@@ -1,10 +1,5 @@
 -- The scalars of the order q: the numbers below q, reckoned modulo q.
-use mathlib.Core.Bool.{cond}
-use Prim.Native.Nat.{ℕ, _%_, _<_}
-use native.Mathlib.Decide.{decLt}
-use lib.Dec.{leb}
-use Rattle.std.specs.declared.option.Option.{Option}
-use Rattle.std.specs.declared.option.Option.the-variants.{Some, None}
+use Prim.Native.Nat.{ℕ}
 use Rattle.scalar.specs.Scalars.{Scalars}
 use Rattle.scalar.specs.Inverse.{inverse-number}
 use Rattle.scalar.specs.Laws as laws

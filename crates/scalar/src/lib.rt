@@ -12,6 +12,7 @@ ghost use Rattle.faults.specs.declared.GroupFault.{GroupFault};
 ghost use Rattle.numbers.specs.Bytes.{code-bytes};
 ghost use Rattle.scalar.specs.Scalars.{added, subtracted, multiplied, bit-at, scalar-code, scalar-of, reduced};
 ghost use Rattle.scalar.specs.Modulo.{modulo};
+ghost use Rattle.scalar.specs.Theorems.{Reckons};
 use faults::GroupFault;
 use numbers::Code;
 use numbers::leading_word;
@@ -126,10 +127,10 @@ impl<const Q: u16> Order<Q> {
     pub fn nonzero(self, s: Scalar<Q>) -> Result<NonZero<Q>, GroupFault>
         ensures { λ r. ⌜ r ≡ okOr (modulo (self .entry) .nonzero (s .entry)) GroupFault.NoScalar ⌝ }
     {
-        if s.value == 0 {
-            Err(GroupFault::NoScalar)
-        } else {
+        if s.value > 0 {
             Ok(NonZero { scalar: s })
+        } else {
+            Err(GroupFault::NoScalar)
         }
     }
 
@@ -146,3 +147,8 @@ impl<const Q: u16> Order<Q> {
         s.value == t.value
     }
 }
+
+// The scalars of every order are a field, and each has one code.
+pub fn reckoning_holds<const Q: u16>(order: Order<Q>)
+    ensures { λ _. ⌜ Reckons (modulo (order .entry)) ⌝ }
+{}

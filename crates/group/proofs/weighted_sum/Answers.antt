@@ -1,17 +1,11 @@
-use mathlib.Core.Path.{_≡_, refl, sym, ap, _∙_, subst}
-use mathlib.Core.List.{List, [], _∷_}
-use Prim.Native.Nat.{ℕ, suc, _+_, _-_, _*_, _/_, _%_, _<_, _≤_}
-use native.Mathlib.Nat.{zero-mul, suc-mul, mul-le-mul-right, add-sub-cancel-left}
+use mathlib.Core.Path.{sym, ap, _∙_}
+use Prim.Native.Nat.{ℕ, suc, _+_, _*_, _≤_}
+use native.Mathlib.Nat.{zero-mul, suc-mul}
 use native.Mathlib.Numerals.{add-one}
 use native.Mathlib.Omega.{arith}
-use lib.ListN.{length, take, drop, getD, drop-of-length-le}
-use lib.Seq.{drop-cons, drop-drop}
-use Rattle.std.specs.declared.result.Result.the-variants.{Ok, Err}
-use Rattle.faults.specs.declared.GroupFault.the-variants.{NoElement}
+use lib.ListN.{length, drop, drop-of-length-le}
 use Rattle.group.specs.Elements.{sum, multiple}
-use Rattle.group.specs.Weighted.{weighted-sum}
-use Rattle.group.specs.declared.SumFault.the-variants.{Item}
-use Rattle.group.proofs.Weighing.{whole-length, length-quotient, item-within, next-item, bad-item, onward, onward-some, onward-none, onward-end, onward-start, wrong-length, some-from-ok, none-from-err}
+use Rattle.group.proofs.Weighing.{whole-length, length-quotient, item-within, next-item, bad-item, onward, onward-end, onward-start, wrong-length}
 use Rattle.group.proofs.weighted_sum.Given.{Over}
 use Rattle.group.proofs.weighted_sum.Needs as need
 use Rattle.group.proofs.weighted_sum.Needs.{then-codes-width·by·then-codes-width, then-codes-width·by·else-codes-width·then-codes-width-ne0}

@@ -1,4 +1,4 @@
-use mathlib.Core.Path.{refl, ap}
+use mathlib.Core.Path.{ap}
 use Prim.Native.Nat.{ℕ, _+_, _*_, _%_}
 use lib.Dec.{lit<}
 use Rattle.std.proofs.shelf.Bits.{mod-below}

@@ -1,7 +1,5 @@
 use mathlib.Core.Path.{_≡_, sym, _∙_}
-use Prim.Native.Nat.{ℕ, _<_, _≤_}
 use native.Mathlib.Omega.{arith}
-use lib.ListN.{length}
 use Rattle.numbers.specs.Bytes.{read}
 use Rattle.numbers.proofs.Bytes.{read-one, read-two, slice-bytes}
 use Rattle.scalar.specs.Modulo.{modulo}

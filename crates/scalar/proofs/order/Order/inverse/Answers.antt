@@ -1,11 +1,7 @@
-use mathlib.Core.Path.{_≡_, refl, sym, ap, _∙_}
-use Prim.Native.Nat.{ℕ, _+_, _-_, _*_, _/_, _%_, _<_, _≤_}
+use mathlib.Core.Path.{_≡_, ap, _∙_}
+use Prim.Native.Nat.{ℕ, _%_, _<_}
 use native.Mathlib.Omega.{arith}
-use borrow.Author.Needs.{needs}
-use Rattle.scalar.specs.Modulo.{modulo}
-use Rattle.scalar.specs.Scalars.{added, subtracted, multiplied, bit-at, scalar-code, scalar-of, reduced}
-use Rattle.scalar.specs.Laws.{width-of, scalar-at, same-value}
-use Rattle.scalar.proofs.Meets.{width-one, width-two, by-value, zero-inverse, one-inverse, bit-past, code-one, code-two, decoded, refused, is-nonzero, is-zero}
+use Rattle.scalar.proofs.Meets.{zero-inverse, one-inverse}
 use Rattle.scalar.proofs.order.Order.inverse.Needs as need
 use native.Mathlib.Nat.{mul-one, mod-eq-of-lt, mod-lt}
 use Rattle.numbers.proofs.Mod.{nearer, positive}

@@ -1,15 +1,9 @@
-use mathlib.Core.Path.{_≡_, refl, sym, ap, _∙_}
-use Prim.Native.Nat.{ℕ, _+_, _-_, _*_, _/_, _%_, _<_, _≤_}
 use native.Mathlib.Omega.{arith}
-use borrow.Author.Needs.{needs}
-use Rattle.scalar.specs.Modulo.{modulo}
-use Rattle.scalar.specs.Scalars.{added, subtracted, multiplied, bit-at, scalar-code, scalar-of, reduced}
-use Rattle.scalar.specs.Laws.{width-of, scalar-at, same-value}
-use Rattle.scalar.proofs.Meets.{width-one, width-two, by-value, zero-inverse, one-inverse, bit-past, code-one, code-two, decoded, refused, is-nonzero, is-zero}
+use Rattle.scalar.proofs.Meets.{is-nonzero, is-zero}
 use Rattle.scalar.proofs.order.Order.nonzero.Needs as need
 
-pub returns-then-s-eq0 : need.returns-then-s-eq0
-returns-then-s-eq0 g c = is-zero (c .args .self) (c .args .s) (omega arith)
+pub returns-else-s-gt0 : need.returns-else-s-gt0
+returns-else-s-gt0 g c = is-zero (c .args .self) (c .args .s) (omega arith)
 
-pub returns-else-s-eq0 : need.returns-else-s-eq0
-returns-else-s-eq0 g c = is-nonzero (c .args .self) _
+pub returns-then-s-gt0 : need.returns-then-s-gt0
+returns-then-s-gt0 g c = is-nonzero (c .args .self) _
