@@ -41,10 +41,10 @@ module _ {E S K : Type 0} (m : Model E S K) where
   onward s i n bs es at width k sums r h wide same e =
       let w = m .element-width in
       let F : List ℕ → List ℕ → Result (E × E) BatchFault → Result (E × E) BatchFault =
-          λ x y z. then z (steps m s (i + 1) (n - (i + 1)) x y) in
+      λ x y z. then z (steps m s (i + 1) (n - (i + 1)) x y) in
       let all : k ≡ w = omega arith in
       let placed : (xs : List ℕ) → drop (at + width) xs ≡ drop w (drop at xs) =
-          λ xs. ap (λ (j : ℕ). drop (at + j) xs) wide ∙ sym (drop-drop w at xs) in
+      λ xs. ap (λ (j : ℕ). drop (at + j) xs) wide ∙ sym (drop-drop w at xs) in
       ap (λ (x : List ℕ). F x (drop (at + width) es) r) (placed bs)
       ∙ ap (λ (y : List ℕ). F (drop w (drop at bs)) y r) (placed es)
       ∙ ap (F (drop w (drop at bs)) (drop w (drop at es))) e
@@ -73,7 +73,7 @@ module _ {E S K : Type 0} (m : Model E S K) where
   unfolding checked
   judged pk bs es p mw back b e f same =
       let F : Result (E × E) BatchFault → Result (Unit {0}) BatchFault =
-          λ r. then r (λ q. cond (same-number m (rechallenge m pk q p) (p .0)) (Ok tt) (Err BadProof)) in
+      λ r. then r (λ q. cond (same-number m (rechallenge m pk q p) (p .0)) (Ok tt) (Err BadProof)) in
       ap (λ (v : Bool). cond v (Ok tt) (Err BadProof)) (sym same)
       ∙ ap (λ (x : S). cond (same-number m x (p .0)) (Ok tt) (Err BadProof)) f
       ∙ ap F e

@@ -51,11 +51,9 @@ pub fn direct<G: Group>(bytes: &mut [u8], key: G::NonZero, input: &[u8]) -> [u8;
 // Unblinding an answer gives what the key gives directly.
 pub fn unblinding_gives_direct<G: Group>()
     ensures { λ _. ⌜ UnblindingGivesDirect model ⌝ }
-{
-}
+{}
 
 // A blinded element says nothing of its input.
 pub fn every_input_fits<G: Group>()
     ensures { λ _. ⌜ EveryInputFits model ⌝ }
-{
-}
+{}

@@ -32,7 +32,13 @@ fn seed<G: Group>(bytes: &mut [u8], pk: G) -> [u8; 32]
 }
 
 // The weight of the item at a place, counted from 0, whose codes are these.
-fn weight<G: Group>(bytes: &mut [u8], seed: &[u8; 32], place: u16, sent: &[u8], got: &[u8]) -> G::Scalar
+fn weight<G: Group>(
+    bytes: &mut [u8],
+    seed: &[u8; 32],
+    place: u16,
+    sent: &[u8],
+    got: &[u8],
+) -> G::Scalar
     requires room { ⌜ 1024 ≤ length (now bytes) ⌝ }
     requires sent { ⌜ length (now sent) ≤ 8 ⌝ }
     requires got { ⌜ length (now got) ≤ 8 ⌝ }
@@ -54,12 +60,23 @@ fn item<G: Group>(place: u16, code: &[u8]) -> Result<G, BatchFault>
 {
     match G::decode(code) {
         Ok(p) => Ok(p),
-        Err(fault) => Err(BatchFault::Item { item: place as u8 + 1, fault }),
+        Err(fault) => Err(BatchFault::Item {
+            item: place as u8 + 1,
+            fault,
+        }),
     }
 }
 
 // The two sums with one item more, each time with the item's weight.
-fn add_item<G: Group>(bytes: &mut [u8], seed: &[u8; 32], place: u16, sent: &[u8], got: &[u8], m: G, w: G) -> Result<(G, G), BatchFault>
+fn add_item<G: Group>(
+    bytes: &mut [u8],
+    seed: &[u8; 32],
+    place: u16,
+    sent: &[u8],
+    got: &[u8],
+    m: G,
+    w: G,
+) -> Result<(G, G), BatchFault>
     requires room { ⌜ 1024 ≤ length (now bytes) ⌝ }
     requires place { ⌜ place < 16 ⌝ }
     requires sent { ⌜ length (now sent) ≤ 8 ⌝ }
@@ -73,7 +90,13 @@ fn add_item<G: Group>(bytes: &mut [u8], seed: &[u8; 32], place: u16, sent: &[u8]
 }
 
 // The weighted sums of two rows of codes.
-fn sum_items<G: Group>(bytes: &mut [u8], seed: &[u8; 32], sent: &[u8], got: &[u8], count: u16) -> Result<(G, G), BatchFault>
+fn sum_items<G: Group>(
+    bytes: &mut [u8],
+    seed: &[u8; 32],
+    sent: &[u8],
+    got: &[u8],
+    count: u16,
+) -> Result<(G, G), BatchFault>
     requires room { ⌜ 1024 ≤ length (now bytes) ⌝ }
     requires few { ⌜ count ≤ 16 ⌝ }
     requires sent { ⌜ length (now sent) ≡ count * model .element-width ⌝ }
@@ -95,7 +118,12 @@ fn sum_items<G: Group>(bytes: &mut [u8], seed: &[u8; 32], sent: &[u8], got: &[u8
 }
 
 // M and W: the weighted sums of the elements sent and of the elements got, which stand as codes in two rows.
-pub fn composites<G: Group>(bytes: &mut [u8], pk: G, sent: &[u8], got: &[u8]) -> Result<(G, G), BatchFault>
+pub fn composites<G: Group>(
+    bytes: &mut [u8],
+    pk: G,
+    sent: &[u8],
+    got: &[u8],
+) -> Result<(G, G), BatchFault>
     requires { ⌜ 1024 ≤ length (now bytes) ⌝ }
     ensures { λ r. ⌜ r ≡ composed model pk (now (sent .entry)) (now (got .entry)) ⌝ }
 {
@@ -123,7 +151,14 @@ fn challenge<G: Group>(bytes: &mut [u8], pk: G, m: G, w: G, t2: G, t3: G) -> G::
 }
 
 // A proof that the key answered every item: challenge and response.
-pub fn prove<G: Group>(bytes: &mut [u8], key: G::NonZero, nonce: G::NonZero, pk: G, sent: &[u8], got: &[u8]) -> Result<(G::Scalar, G::Scalar), BatchFault>
+pub fn prove<G: Group>(
+    bytes: &mut [u8],
+    key: G::NonZero,
+    nonce: G::NonZero,
+    pk: G,
+    sent: &[u8],
+    got: &[u8],
+) -> Result<(G::Scalar, G::Scalar), BatchFault>
     requires { ⌜ 1024 ≤ length (now bytes) ⌝ }
     ensures { λ r. ⌜ r ≡ proved model key nonce pk (now (sent .entry)) (now (got .entry)) ⌝ }
 {
@@ -145,7 +180,14 @@ fn retrace<G: Group>(bytes: &mut [u8], pk: G, m: G, w: G, c: G::Scalar, s: G::Sc
 }
 
 // Whether challenge and response prove that the key of `pk` answered every item.
-pub fn check<G: Group>(bytes: &mut [u8], pk: G, sent: &[u8], got: &[u8], c: G::Scalar, s: G::Scalar) -> Result<(), BatchFault>
+pub fn check<G: Group>(
+    bytes: &mut [u8],
+    pk: G,
+    sent: &[u8],
+    got: &[u8],
+    c: G::Scalar,
+    s: G::Scalar,
+) -> Result<(), BatchFault>
     requires { ⌜ 1024 ≤ length (now bytes) ⌝ }
     ensures { λ r. ⌜ r ≡ checked model pk (now (sent .entry)) (now (got .entry)) (c, s) ⌝ }
 {
@@ -159,5 +201,4 @@ pub fn check<G: Group>(bytes: &mut [u8], pk: G, sent: &[u8], got: &[u8], c: G::S
 // What the prover makes passes the check.
 pub fn proofs_pass<G: Group>()
     ensures { λ _. ⌜ ProofsPass model ⌝ }
-{
-}
+{}

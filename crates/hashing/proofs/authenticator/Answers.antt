@@ -12,8 +12,8 @@ pub returns : need.returns
 unfolding authenticator
 returns g c =
     let all =
-        and-then (same-part (c .to-be-bytes .ensures) (c .put-at .ensures))
-        (and-then (c .put-at-2 .ensures) (and-then (c .put-element-at .ensures .appended) (c .put-end .ensures))) in
+    and-then (same-part (c .to-be-bytes .ensures) (c .put-at .ensures))
+    (and-then (c .put-at-2 .ensures) (and-then (c .put-element-at .ensures .appended) (c .put-end .ensures))) in
     let from : c .put-end .result - 0 ≡ c .put-end .result = omega arith in
     c .hash .ensures
     ∙ ap (λ (n : ℕ). sha256 (take n (c .put-end .last .bytes))) from

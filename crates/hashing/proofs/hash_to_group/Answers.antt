@@ -13,5 +13,5 @@ returns g c =
     let m = g .G·Group .model in
     c .map .ensures
     ∙ ap (m .map)
-        (c .hash-tagged .ensures
-        ∙ ap (λ (l : List ℕ). sha256 (tagged m (codes "HashToGroup-") l)) (whole (c .put-len .ensures)))
+    (c .hash-tagged .ensures
+    ∙ ap (λ (l : List ℕ). sha256 (tagged m (codes "HashToGroup-") l)) (whole (c .put-len .ensures)))

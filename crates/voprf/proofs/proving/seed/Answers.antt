@@ -17,12 +17,12 @@ returns g c =
     let m = g .G·Group .model in
     let named = c .name .ensures in
     let long : 20 + length (c .name .result .now) ≡ length (codes "Seed-" ++ context-string m) =
-        ap (λ (l : List ℕ). 20 + length l) named
-        ∙ omega (arith, length-append (m .name) (codes "-SHA256")) in
+    ap (λ (l : List ℕ). 20 + length l) named
+    ∙ omega (arith, length-append (m .name) (codes "-SHA256")) in
     let all =
-        and-then (c .put-element-at .ensures .appended)
-        (and-then (same-part (c .to-be-bytes .ensures ∙ ap two-bytes long) (c .put-at .ensures))
-          (and-then (c .put-at-2 .ensures) (c .put-context-end .ensures .appended))) in
+    and-then (c .put-element-at .ensures .appended)
+    (and-then (same-part (c .to-be-bytes .ensures ∙ ap two-bytes long) (c .put-at .ensures))
+    (and-then (c .put-at-2 .ensures) (c .put-context-end .ensures .appended))) in
     let from : c .put-context-end .result - 0 ≡ c .put-context-end .result = omega arith in
     c .hash .ensures
     ∙ ap (λ (n : ℕ). sha256 (take n (c .put-context-end .last .bytes))) from

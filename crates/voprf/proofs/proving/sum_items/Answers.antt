@@ -15,14 +15,14 @@ pub add-end : need.add-end
 add-end g c =
     let e = c .element-width-width .ensures in
     let inside = item-within (c .loop-i .at) (c .loop-i .i) (g .G·Group .model .element-width) (c .args .count) (length (c .args .sent .now))
-        (c .loop-i-test .taken) (c .loop-i .inv .0) (c .pre .sent) in
+    (c .loop-i-test .taken) (c .loop-i .inv .0) (c .pre .sent) in
     search needs
 
 pub part-add-item-end : need.part-add-item-end
 part-add-item-end g c =
     let e = c .element-width-width .ensures in
     let inside = item-within (c .loop-i .at) (c .loop-i .i) (g .G·Group .model .element-width) (c .args .count) (length (c .args .sent .now))
-        (c .loop-i-test .taken) (c .loop-i .inv .0) (c .pre .sent) in
+    (c .loop-i-test .taken) (c .loop-i .inv .0) (c .pre .sent) in
     search needs
 
 pub part-add-item-end-in-loop-i : need.part-add-item-end-in-loop-i
@@ -30,7 +30,7 @@ part-add-item-end-in-loop-i g c =
     let e = c .element-width-width .ensures in
     let same = c .pre .got in
     let inside = item-within (c .loop-i .at) (c .loop-i .i) (g .G·Group .model .element-width) (c .args .count) (length (c .args .sent .now))
-        (c .loop-i-test .taken) (c .loop-i .inv .0) (c .pre .sent) in
+    (c .loop-i-test .taken) (c .loop-i .inv .0) (c .pre .sent) in
     search needs
 
 pub loop-i-holds : need.loop-i-holds
@@ -41,24 +41,25 @@ loop-i-holds g c =
     (omega arith, cc)
 
 pub loop-i-again : need.loop-i-again
-loop-i-again g c =
-    (next-place (c .loop-i .at) (c .loop-i .i) (g .G·Group .model .element-width) (c .element-width-width .result) (c .loop-i .inv .0) (c .element-width-width .ensures),
-     onward (g .G·Group .model) (c .args .seed .now) (c .loop-i .i) (c .args .count) (c .args .sent .now) (c .args .got .now) (c .loop-i .at)
-     (c .element-width-width .result) (c .loop-i .at + c .element-width-width .result - c .loop-i .at) (c .loop-i .m, c .loop-i .w)
-     (Ok (c .in-Continue-sums .sums)) (c .loop-i-test .taken) (c .element-width-width .ensures) (omega arith) (c .in-Continue-sums .ensures tt)
-     ∙ c .loop-i .inv .1)
+loop-i-again g c = (
+  next-place (c .loop-i .at) (c .loop-i .i) (g .G·Group .model .element-width) (c .element-width-width .result) (c .loop-i .inv .0) (c .element-width-width .ensures),
+  onward (g .G·Group .model) (c .args .seed .now) (c .loop-i .i) (c .args .count) (c .args .sent .now) (c .args .got .now) (c .loop-i .at)
+      (c .element-width-width .result) (c .loop-i .at + c .element-width-width .result - c .loop-i .at) (c .loop-i .m, c .loop-i .w)
+      (Ok (c .in-Continue-sums .sums)) (c .loop-i-test .taken) (c .element-width-width .ensures) (omega arith) (c .in-Continue-sums .ensures tt)
+      ∙ c .loop-i .inv .1,
+)
 
 pub returns-in-Break-sums : need.returns-in-Break-sums
 returns-in-Break-sums g c =
     let p = err-from-errBy (c .from-residual .result) (c .from-residual .ensures .1) in
     p .1 ∙ ap (λ f. Err f) (p .2)
     ∙ onward (g .G·Group .model) (c .args .seed .now) (c .loop-i .i) (c .args .count) (c .args .sent .now) (c .args .got .now) (c .loop-i .at)
-      (c .element-width-width .result) (c .loop-i .at + c .element-width-width .result - c .loop-i .at) (c .loop-i .m, c .loop-i .w)
-      (Err (c .in-Break-sums .field-0 .0)) (c .loop-i-test .taken) (c .element-width-width .ensures) (omega arith) (c .in-Break-sums .ensures tt)
+    (c .element-width-width .result) (c .loop-i .at + c .element-width-width .result - c .loop-i .at) (c .loop-i .m, c .loop-i .w)
+    (Err (c .in-Break-sums .field-0 .0)) (c .loop-i-test .taken) (c .element-width-width .ensures) (omega arith) (c .in-Break-sums .ensures tt)
     ∙ c .loop-i .inv .1
 
 pub returns : need.returns
 returns g c =
     sym (steps-done (g .G·Group .model) (c .args .seed .now) (c .loop-i .i) (c .args .count) (drop (c .loop-i .at) (c .args .sent .now))
-      (drop (c .loop-i .at) (c .args .got .now)) (c .loop-i .m, c .loop-i .w) (c .loop-i-test .left))
+    (drop (c .loop-i .at) (c .args .got .now)) (c .loop-i .m, c .loop-i .w) (c .loop-i-test .left))
     ∙ c .loop-i .inv .1
