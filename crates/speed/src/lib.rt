@@ -52,7 +52,7 @@ fn tell<G: Group>(product: Result<G, GroupFault>, out: &mut [u8]) -> u8
     ensures out { λ _. ⌜ now (out .exit) ≡ product-out model product (now (out .entry)) ⌝ }
 {
     match product {
-        Err(fault) => fault.refusal().number,
+        Err(none) => none.refusal().number,
         Ok(x) => {
             let width = G::element_width();
             if out.len() < width {
