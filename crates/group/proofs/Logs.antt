@@ -89,18 +89,22 @@ module _ {E S K : Type 0} (m : Model E S K) (s : S) (p : E) where
       let half : r ≡ m .at-log (n / 2 ^ place / 2 * m .log p) = e ∙ ap (λ (k : ℕ). m .at-log (k * m .log p)) (sym (shr-shr n place 1)) in
       ap (λ x. sum m x x) half ∙ sum-at m (n / 2 ^ place / 2 * m .log p) (n / 2 ^ place / 2 * m .log p)
 
-  pub bit-one : (place : ℕ) (r : E) → bit-at (m .scalars) s place ≡ true → r ≡ above (place + 1) → sum m (sum m r r) p ≡ above place
+  -- a turn where the bit is set: doubled to t, and p added
+  pub bit-one : (place : ℕ) (r t x : E) → 0 < place → r ≡ above place → t ≡ sum m r r → x ≡ sum m t p → bit-at (m .scalars) s (place - 1) ≡ true → x ≡ above (place - 1)
   unfolding bit-at
-  bit-one place r b e =
-      let d = m .scalars .number s / 2 ^ place in
-      ap (λ x. sum m x p) (doubled-above place r e) ∙ sum-at-right m (d / 2 * m .log p + d / 2 * m .log p) p ∙
+  bit-one place r t x h e f g b =
+      let d = m .scalars .number s / 2 ^ (place - 1) in
+      let next : place ≡ place - 1 + 1 = omega arith in
+      g ∙ ap (λ y. sum m y p) (f ∙ doubled-above (place - 1) r (e ∙ ap above next)) ∙ sum-at-right m (d / 2 * m .log p + d / 2 * m .log p) p ∙
       ap (m .at-log) (odd-times d (m .log p) (eqb-true (d % 2) 1 b))
 
-  pub bit-zero : (place : ℕ) (r : E) → bit-at (m .scalars) s place ≡ false → r ≡ above (place + 1) → sum m r r ≡ above place
+  -- a turn where it is not
+  pub bit-zero : (place : ℕ) (r t : E) → 0 < place → r ≡ above place → t ≡ sum m r r → bit-at (m .scalars) s (place - 1) ≡ false → t ≡ above (place - 1)
   unfolding bit-at
-  bit-zero place r b e =
-      let d = m .scalars .number s / 2 ^ place in
-      doubled-above place r e ∙ ap (m .at-log) (even-times d (m .log p) (eqb-false (d % 2) 1 b))
+  bit-zero place r t h e f b =
+      let d = m .scalars .number s / 2 ^ (place - 1) in
+      let next : place ≡ place - 1 + 1 = omega arith in
+      f ∙ doubled-above (place - 1) r (e ∙ ap above next) ∙ ap (m .at-log) (even-times d (m .log p) (eqb-false (d % 2) 1 b))
 
   pub all-above : above 0 ≡ multiple m s p
   unfolding multiple

@@ -7,7 +7,7 @@ use native.Mathlib.Nat.{add-zero, add-suc, suc-add, mul-comm, suc-mul, zero-mul,
 use native.Mathlib.Numerals.{one-add, add-one}
 use Rattle.std.proofs.shelf.Bits.{div-mul-add, mod-mul-add}
 use native.Mathlib.Omega.{arith}
-use lib.ListN.{length, take, drop, getD, length-append}
+use lib.ListN.{length, take, drop, getD, length-append, drop-of-length-le}
 use lib.Seq.{take-at, drop-at, drop-cons, drop-drop}
 use borrow.Author.Tests.{eq-eqb}
 use Rattle.std.proofs.shelf.Tests.{ne-eqb}
@@ -101,8 +101,14 @@ module _ {E S K : Type 0} (m : Model E S K) where
   onward-none total i codes s ss e =
       ap (λ o. onward-by total (s ∷ ss) (led i o (elements m (suc i) (length ss) (drop (m .element-width) codes)))) e
 
-  pub onward-end : (total : E) (i : ℕ) (codes : List ℕ) → onward total i codes [] ≡ Ok total
+  onward-end : (total : E) (i : ℕ) (codes : List ℕ) → onward total i codes [] ≡ Ok total
   onward-end total i codes = ap (λ x. Ok x) (ap (λ y. sum m total y) empty ∙ lawful m .neutral total)
+
+  -- with all scalars used, the total is the answer
+  pub ended : (total : E) (i : ℕ) (codes : List ℕ) (scalars : List S) (answer : Result E SumFault) → length scalars ≤ i →
+      onward total (suc i) codes (drop i scalars) ≡ answer → Ok total ≡ answer
+  ended total i codes scalars answer h inv =
+      sym (ap (λ ss. onward total (suc i) codes ss) (drop-of-length-le scalars {i = i} h) ∙ onward-end total (suc i) codes) ∙ inv
 
   start-by : (ss : List S) (r : Result (List E) ℕ) → onward-by (null m) ss r ≡ summed m ss r
   start-by ss (Ok ps) = ap (λ x. Ok x) (lawful m .swapped (null m) (weighted m ss ps) ∙ lawful m .neutral (weighted m ss ps))
@@ -126,7 +132,7 @@ module _ {E S K : Type 0} (m : Model E S K) where
     part : take (at + w - at) (drop at codes) ≡ take (m .element-width) (drop at codes)
     part = ap (λ (n : ℕ). take n (drop at codes)) (add-sub-cancel-left at w ∙ width)
 
-    pub next-item : (s : S) (p : E) → s ≡ getD scalars i s → Ok p ≡ okOr (m .element (take (at + w - at) (drop at codes))) NoElement →
+    next-item : (s : S) (p : E) → s ≡ getD scalars i s → Ok p ≡ okOr (m .element (take (at + w - at) (drop at codes))) NoElement →
         onward total (suc i) (drop at codes) (drop i scalars) ≡
         onward (sum m total (multiple m s p)) (suc (i + 1)) (drop (at + w) codes) (drop (i + 1) scalars)
     next-item s p e d =
@@ -137,6 +143,13 @@ module _ {E S K : Type 0} (m : Model E S K) where
         ap (λ ss. onward total (suc i) (drop at codes) ss) here ∙ onward-some total (suc i) (drop at codes) s (drop (suc i) scalars) p found ∙
         ap (λ bs. onward (sum m total (multiple m s p)) (suc (suc i)) bs (drop (suc i) scalars)) (drop-drop (m .element-width) at codes ∙ ap (λ (n : ℕ). drop (at + n) codes) (sym width)) ∙
         ap (λ (n : ℕ). onward (sum m total (multiple m s p)) (suc n) (drop (at + w) codes) (drop n scalars)) (sym one)
+
+    -- the same, with what the calls answered
+    pub turned : (s : S) (p x y : E) (answer : Result E SumFault) → s ≡ getD scalars i s →
+        Ok p ≡ okOr (m .element (take (at + w - at) (drop at codes))) NoElement → x ≡ multiple m s p → y ≡ sum m total x →
+        onward total (suc i) (drop at codes) (drop i scalars) ≡ answer → onward y (suc (i + 1)) (drop (at + w) codes) (drop (i + 1) scalars) ≡ answer
+    turned s p x y answer e d f g inv =
+        ap (λ t. onward t (suc (i + 1)) (drop (at + w) codes) (drop (i + 1) scalars)) (g ∙ ap (sum m total) f) ∙ sym (next-item s p e d) ∙ inv
 
     pub bad-item : (d : GroupFault) → Err d ≡ okOr (m .element (take (at + w - at) (drop at codes))) NoElement →
         Err (Item (i + 1) d) ≡ onward total (suc i) (drop at codes) (drop i scalars)
@@ -153,7 +166,7 @@ module _ {E S K : Type 0} (m : Model E S K) where
   row-length (p ∷ ps) =
       length-append (m .code p) (row m ps) ∙ omega (arith, m .coded p, row-length ps, suc-mul (length ps) (m .element-width))
 
-  elements-row : (i : ℕ) (ps : List E) → elements m i (length ps) (row m ps) ≡ Ok ps
+  pub elements-row : (i : ℕ) (ps : List E) → elements m i (length ps) (row m ps) ≡ Ok ps
   elements-row i [] = refl
   elements-row i (p ∷ ps) =
       let w = m .element-width in

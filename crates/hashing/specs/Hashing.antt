@@ -1,15 +1,12 @@
 -- What is hashed: labels, numbers and codes in a row, for every kind of group.
 use mathlib.Core.List.{List, [], _∷_, _++_}
-use Prim.Native.Nat.{ℕ, _/_, _%_}
+use Prim.Native.Nat.{ℕ}
 use lib.Chars.{codes}
 use lib.ListN.{length}
+use Rattle.numbers.specs.Bytes.{two-bytes}
 use Rattle.digest.specs.Sha256.{sha256}
 use Rattle.scalar.specs.Scalars.{reduced}
 use Rattle.group.specs.Model.{Model}
-
--- a number in two bytes, the high byte first
-abbrev pub two-bytes : ℕ → List ℕ
-two-bytes n = (n / 256 % 256) ∷ (n % 256) ∷ []
 
 module _ {E S K : Type 0} (m : Model E S K) where
   -- "BBTV4-", the byte 1, "-", the group's name, "-SHA256"

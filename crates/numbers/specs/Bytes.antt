@@ -21,6 +21,10 @@ abbrev pub written : ℕ → ℕ → List ℕ
 written zero n = []
 written (suc width) n = written width (n / 256) ++ (n % 256 ∷ [])
 
+-- a number in two bytes
+abbrev pub two-bytes : ℕ → List ℕ
+two-bytes n = (n / 256 % 256) ∷ (n % 256) ∷ []
+
 -- the number in the first 8 bytes: one word
 unfoldable pub word : List ℕ → ℕ
 word bytes = read (take 8 bytes)

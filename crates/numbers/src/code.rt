@@ -1,4 +1,4 @@
-// The code of an element or of a scalar: at most 8 bytes, zeros after them.
+// The code of an element or of a scalar: the first `len` bytes, at most 8. The others mean nothing.
 ghost use Prim.Native.Nat.{_≤_};
 
 #[derive(Clone, Copy)]

@@ -4,7 +4,6 @@ use mathlib.Core.Bool.{Bool, true, false, cond, _&&_}
 use mathlib.Core.List.{List, [], _∷_}
 use Prim.Native.Nat.{ℕ, _+_, _*_, _/_, _%_, _^_}
 use lib.Dec.{eqb, ltb, lit<}
-use lib.Dec.{lit<}
 use lib.ListN.{length}
 use Rattle.std.proofs.shelf.Bits.{mod-below}
 use Rattle.std.specs.declared.option.Option.{Option}
@@ -31,6 +30,7 @@ code-of x = x .value / 256 ∷ x .value % 256 ∷ []
 abbrev pub is-member : ℕ → Bool
 is-member a = ltb a 2039 && eqb (a ^ 1019 % 2039) 1
 
+-- the element that a number is, by the answer of that test
 abbrev pub member-by : (a : ℕ) (b : Bool) → is-member a ≡ b → Option Residue
 member-by a true e = Some (record { value = a; member = tested-member a e })
 member-by a false e = None
@@ -39,6 +39,13 @@ member-by a false e = None
 unfoldable pub element-of : List ℕ → Option Residue
 element-of bytes = cond (are-bytes bytes && eqb (length bytes) 2) (member-by (read bytes) (is-member (read bytes)) refl) None
 
--- the square of w = 1 + (N modulo 2038)
+-- w = 1 + (N modulo 2038), where N is the word in the first 8 bytes
+abbrev pub root : List ℕ → ℕ
+root bytes = 1 + word bytes % 2038
+
+-- the square of w
 unfoldable pub mapped : List ℕ → Residue
-mapped bytes = record { value = (1 + word bytes % 2038) * (1 + word bytes % 2038) % 2039; member = square-member (word bytes % 2038) (mod-below (word bytes) 2038 (lit< tt)) }
+mapped bytes = record {
+  value = root bytes * root bytes % 2039;
+  member = square-member (word bytes % 2038) (mod-below (word bytes) 2038 (lit< tt));
+}

@@ -1,4 +1,4 @@
--- That res2039 keeps the laws of a group.
+-- That res2039 keeps the laws of a group: proofs that its model holds, so they stand beside it.
 use mathlib.Core.Path.{_≡_, refl, sym, ap, _∙_, subst}
 use mathlib.Core.Bool.{Bool, true, false, cond, _&&_}
 use mathlib.Core.List.{List, [], _∷_}

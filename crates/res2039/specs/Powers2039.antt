@@ -1,4 +1,4 @@
--- The powers of 4 modulo 2039 are a cycle of 1019, by tests that antt computes.
+-- The powers of 4 modulo 2039 are a cycle of 1019, by tests that antt computes: proofs that the model holds.
 use mathlib.Core.Path.{_≡_, refl, sym, ap, _∙_, subst}
 use mathlib.Core.Bool.{Bool, true, false, not, _||_, _&&_}
 use mathlib.Core.List.{List, [], _∷_}

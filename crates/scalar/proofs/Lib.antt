@@ -1,2 +1,3 @@
 pub mod Meets
 pub mod Reckoning
+pub mod Codes

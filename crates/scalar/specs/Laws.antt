@@ -1,4 +1,4 @@
--- That the numbers modulo a prime keep the laws of scalars.
+-- That the numbers modulo a prime keep the laws of scalars: proofs that `modulo` holds, so they stand beside it.
 use mathlib.Core.Path.{_≡_, refl, sym, ap, _∙_, subst}
 use mathlib.Core.Bool.{Bool, true, false, cond}
 use mathlib.Core.HLevel.{isProp→PathP}

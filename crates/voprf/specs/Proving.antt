@@ -18,7 +18,8 @@ use Rattle.digest.specs.Sha256.{sha256}
 use Rattle.scalar.specs.Scalars.{subtracted, multiplied}
 use Rattle.group.specs.Model.{Model}
 use Rattle.group.specs.Elements.{null, sum, base-multiple, multiple}
-use Rattle.hashing.specs.Hashing.{two-bytes, context-string, framed-code, framed, hash-to-scalar}
+use Rattle.numbers.specs.Bytes.{two-bytes}
+use Rattle.hashing.specs.Hashing.{context-string, framed-code, framed, hash-to-scalar}
 use Rattle.group.specs.Theorems.{row}
 use Rattle.voprf.specs.Blinding.{public-key, answered}
 

@@ -1,7 +1,6 @@
 use mathlib.Core.Path.{_≡_, sym, ap, _∙_}
-use Prim.Native.Nat.{ℕ, _+_, _-_, _*_}
+use Prim.Native.Nat.{ℕ, _*_}
 use native.Mathlib.Omega.{arith}
-use Rattle.group.specs.Elements.{sum}
 use Rattle.group.proofs.Logs.{above, none-past-code, bit-one, bit-zero, all-above}
 use Rattle.group.proofs.multiple.Needs as need
 
@@ -15,27 +14,18 @@ loop-place-holds g c =
     )
 
 pub loop-place-again-then-bit : need.loop-place-again-then-bit
-loop-place-again-then-bit g c =
-    let m = g .G·Group .model in
-    let s = c .args .s in
-    let p = c .args .p in
-    let place = c .loop-place .place - 1 in
-    let next : c .loop-place .place ≡ place + 1 = omega arith in (
-      omega arith,
-      c .sum-r-then-bit .ensures ∙ ap (λ r. sum m r p) (c .sum-r .ensures) ∙
-          bit-one m s p place (c .loop-place .r) (sym (c .bit .ensures) ∙ c .if-bit .taken) (c .loop-place .inv .1 ∙ ap (above m s p) next),
-    )
+loop-place-again-then-bit g c = (
+  omega arith,
+  bit-one (g .G·Group .model) (c .args .s) (c .args .p) (c .loop-place .place) (c .loop-place .r) (c .sum-r .result) (c .sum-r-then-bit .result)
+      (c .loop-place-test .taken) (c .loop-place .inv .1) (c .sum-r .ensures) (c .sum-r-then-bit .ensures) (sym (c .bit .ensures) ∙ c .if-bit .taken),
+)
 
 pub loop-place-again : need.loop-place-again
-loop-place-again g c =
-    let m = g .G·Group .model in
-    let s = c .args .s in
-    let p = c .args .p in
-    let place = c .loop-place .place - 1 in
-    let next : c .loop-place .place ≡ place + 1 = omega arith in (
-      omega arith,
-      c .sum-r .ensures ∙ bit-zero m s p place (c .loop-place .r) (sym (c .bit .ensures) ∙ c .if-bit .left) (c .loop-place .inv .1 ∙ ap (above m s p) next),
-    )
+loop-place-again g c = (
+  omega arith,
+  bit-zero (g .G·Group .model) (c .args .s) (c .args .p) (c .loop-place .place) (c .loop-place .r) (c .sum-r .result)
+      (c .loop-place-test .taken) (c .loop-place .inv .1) (c .sum-r .ensures) (sym (c .bit .ensures) ∙ c .if-bit .left),
+)
 
 pub returns : need.returns
 returns g c =

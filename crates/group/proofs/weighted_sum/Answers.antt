@@ -1,11 +1,11 @@
 use mathlib.Core.Path.{sym, ap, _∙_}
-use Prim.Native.Nat.{ℕ, suc, _+_, _*_, _≤_}
+use Prim.Native.Nat.{ℕ, _+_, _*_, _≤_}
 use native.Mathlib.Nat.{zero-mul, suc-mul}
 use native.Mathlib.Numerals.{add-one}
 use native.Mathlib.Omega.{arith}
-use lib.ListN.{length, drop, drop-of-length-le}
-use Rattle.group.specs.Elements.{sum, multiple}
-use Rattle.group.proofs.Weighing.{whole-length, length-quotient, item-within, next-item, bad-item, onward, onward-end, onward-start, wrong-length}
+use lib.ListN.{length, drop}
+use Rattle.group.specs.Elements.{multiple}
+use Rattle.group.proofs.Weighing.{whole-length, length-quotient, item-within, turned, bad-item, onward, ended, onward-start, wrong-length}
 use Rattle.group.proofs.weighted_sum.Given.{Over}
 use Rattle.group.proofs.weighted_sum.Needs as need
 use Rattle.group.proofs.weighted_sum.Needs.{then-codes-width·by·then-codes-width, then-codes-width·by·else-codes-width·then-codes-width-ne0}
@@ -65,18 +65,11 @@ loop-i-again g c =
     let i = c .loop-i .i in
     let width = c .element-width-width .ensures in (
       omega (arith, ap (λ (n : ℕ). n * m .element-width) (add-one i), suc-mul i (m .element-width), c .loop-i .inv .0),
-      ap (λ t. onward m t (suc (i + 1)) (drop (c .loop-i .at + c .element-width-width .result) (c .args .codes .now)) (drop (i + 1) (c .args .scalars .now)))
-          (c .sum-total .ensures ∙ ap (sum m (c .loop-i .total)) (c .multiple .ensures)) ∙
-          sym (next-item m (c .args .codes .now) (c .args .scalars .now) (c .loop-i .total) (c .loop-i .at) i (c .element-width-width .result)
-          (c .loop-i-test .taken) width (c .index-scalars-i .result) (c .in-Ok .p) (c .index-scalars-i .is) (c .in-Ok .ensures tt)) ∙
-          c .loop-i .inv .1,
+      turned m (c .args .codes .now) (c .args .scalars .now) (c .loop-i .total) (c .loop-i .at) i (c .element-width-width .result) (c .loop-i-test .taken) width
+          (c .index-scalars-i .result) (c .in-Ok .p) (c .multiple .result) (c .sum-total .result) _
+          (c .index-scalars-i .is) (c .in-Ok .ensures tt) (c .multiple .ensures) (c .sum-total .ensures) (c .loop-i .inv .1),
     )
 
 pub returns : need.returns
 returns g c =
-    let m = g .G·Group .model in
-    let scalars = c .args .scalars .now in
-    let i = c .loop-i .i in
-    sym (ap (λ ss. onward m (c .loop-i .total) (suc i) (drop (c .loop-i .at) (c .args .codes .now)) ss) (drop-of-length-le scalars {i = i} (omega arith)) ∙
-    onward-end m (c .loop-i .total) (suc i) (drop (c .loop-i .at) (c .args .codes .now))) ∙
-    c .loop-i .inv .1
+    ended (g .G·Group .model) (c .loop-i .total) (c .loop-i .i) (drop (c .loop-i .at) (c .args .codes .now)) (c .args .scalars .now) _ (omega arith) (c .loop-i .inv .1)

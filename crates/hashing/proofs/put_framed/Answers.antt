@@ -1,6 +1,7 @@
 use borrow.Author.Needs.{needs}
 use mathlib.Core.Path.{_∙_, ap}
-use Rattle.hashing.specs.Hashing.{two-bytes, framed-code}
+use Rattle.numbers.specs.Bytes.{two-bytes}
+use Rattle.hashing.specs.Hashing.{framed-code}
 use Rattle.hashing.proofs.Appending.{and-then, same-part}
 use Rattle.hashing.proofs.put_framed.Needs as need
 

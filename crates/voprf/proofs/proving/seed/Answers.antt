@@ -6,7 +6,8 @@ use lib.Chars.{codes}
 use lib.ListN.{length, take}
 use Rattle.std.proofs.shelf.Lists.{length-append}
 use Rattle.digest.specs.Sha256.{sha256}
-use Rattle.hashing.specs.Hashing.{two-bytes, context-string}
+use Rattle.numbers.specs.Bytes.{two-bytes}
+use Rattle.hashing.specs.Hashing.{context-string}
 use Rattle.hashing.proofs.Appending.{and-then, same-part, whole}
 use Rattle.voprf.specs.Proving.{seed}
 use Rattle.voprf.proofs.proving.seed.Needs as need

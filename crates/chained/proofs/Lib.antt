@@ -1,0 +1,4 @@
+pub mod Frames
+pub mod Writes
+pub mod Images
+pub mod Books

@@ -1,0 +1,4 @@
+pub mod Layout
+pub mod Facts
+pub mod Books
+pub mod Laws

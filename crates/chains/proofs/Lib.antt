@@ -1,0 +1,11 @@
+pub mod Links
+pub mod Joins
+pub mod Fits
+pub mod Marking
+pub mod Freeing
+pub mod Sweeping
+pub mod Dropping
+pub mod Clearing
+pub mod Soundness
+pub mod Steps
+pub mod Meanings

@@ -1,0 +1,4 @@
+pub mod Answers
+pub mod Messages
+pub mod Views
+pub mod Laws
