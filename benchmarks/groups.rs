@@ -283,7 +283,7 @@ fn seconds() -> f64 {
     time.seconds as f64 + time.nanoseconds as f64 * 1e-9
 }
 
-const TURNS: usize = 15;
+const TURNS: usize = 9;
 
 /// Calls a second of each of two sides: the best of several turns, taken in alternation.
 fn rates<F: Copy>(sides: [F; 2], calls: usize, carry_out: impl Fn(F)) -> [f64; 2] {
