@@ -93,11 +93,15 @@ fn schedule(block: &[u8]) -> [u32; 64]
             block[4 * t + 3],
         ]);
     }
-    for n in 0..48usize {
-        words[n + 16] = small_sigma1(words[n + 14])
-            .wrapping_add(words[n + 9])
-            .wrapping_add(small_sigma0(words[n + 1]))
-            .wrapping_add(words[n]);
+    // eight words a turn, which the compiler lays out in a row
+    for i in 0..6usize {
+        for j in 0..8usize {
+            let n = 8 * i + j;
+            words[n + 16] = small_sigma1(words[n + 14])
+                .wrapping_add(words[n + 9])
+                .wrapping_add(small_sigma0(words[n + 1]))
+                .wrapping_add(words[n]);
+        }
     }
     words
 }

@@ -2,11 +2,22 @@
 // other implementations and compare the answers. A slice passes as a pointer and a length.
 ghost use mathlib.Core.Path.{_≡_};
 ghost use lib.ListN.{length};
+ghost use Rattle.circ523.specs.Kind.{points};
+ghost use Rattle.res2039.specs.Kind.{residues};
 ghost use Rattle.speed.specs.Answers.{digest-status, digest-out};
+ghost use Rattle.speed.specs.Products.{product, product-status, product-out};
+use circ523::Point;
+use circ523::PointGroup;
 use digest::digest;
 use faults::Fault;
+use faults::GroupFault;
+use faults::GroupTells;
 use faults::WireFault;
 use faults::WireTells;
+use group::Group;
+use group::multiple;
+use res2039::Residue;
+use res2039::ResidueGroup;
 
 // Writes the digest to the front of `out` and answers 0, or answers the fault's number and writes nothing.
 #[unsafe(no_mangle)]
@@ -24,4 +35,49 @@ pub extern "C" fn dilkortxi_digest(input: &[u8], out: &mut [u8]) -> u8
             0
         }
     }
+}
+
+// The multiple of an element and a scalar that come as codes.
+fn product<G: Group>(code: &[u8], scalar: &[u8]) -> Result<G, GroupFault>
+    ensures { λ r. ⌜ r ≡ product model (now (code .entry)) (now (scalar .entry)) ⌝ }
+{
+    let p = G::decode(code)?;
+    let s = G::decode_scalar(scalar)?;
+    Ok(multiple(s, p))
+}
+
+// Writes the multiple's code to the front of `out` and answers 0, or answers the fault's number and writes nothing.
+fn tell<G: Group>(product: Result<G, GroupFault>, out: &mut [u8]) -> u8
+    ensures status { λ r. ⌜ r ≡ product-status model product (length (now (out .entry))) ⌝ }
+    ensures out { λ _. ⌜ now (out .exit) ≡ product-out model product (now (out .entry)) ⌝ }
+{
+    match product {
+        Err(none) => none.refusal().number,
+        Ok(x) => {
+            let width = G::element_width();
+            if out.len() < width {
+                return WireFault::ShortOutlet.refusal().number;
+            }
+            out[0..width].copy_from_slice(x.encode().as_slice());
+            0
+        }
+    }
+}
+
+// s·P in res2039.
+#[unsafe(no_mangle)]
+pub extern "C" fn dilkortxi_res2039_multiple(code: &[u8], scalar: &[u8], out: &mut [u8]) -> u8
+    ensures status { λ r. ⌜ r ≡ product-status residues (product residues (now (code .entry)) (now (scalar .entry))) (length (now (out .entry))) ⌝ }
+    ensures out { λ _. ⌜ now (out .exit) ≡ product-out residues (product residues (now (code .entry)) (now (scalar .entry))) (now (out .entry)) ⌝ }
+{
+    tell::<Residue>(product(code, scalar), out)
+}
+
+// s·P in circ523.
+#[unsafe(no_mangle)]
+pub extern "C" fn dilkortxi_circ523_multiple(code: &[u8], scalar: &[u8], out: &mut [u8]) -> u8
+    ensures status { λ r. ⌜ r ≡ product-status points (product points (now (code .entry)) (now (scalar .entry))) (length (now (out .entry))) ⌝ }
+    ensures out { λ _. ⌜ now (out .exit) ≡ product-out points (product points (now (code .entry)) (now (scalar .entry))) (now (out .entry)) ⌝ }
+{
+    tell::<Point>(product(code, scalar), out)
 }

@@ -25,33 +25,34 @@ loop-t-again c =
     let i = c .loop-t .inv .0 in
     (cc, simp length-set (c .loop-t .inv .1))
 
-pub loop-n-holds : need.loop-n-holds
+pub loop-i-holds : need.loop-i-holds
 unfolding grown block-words
-loop-n-holds c =
+loop-i-holds c =
     let end : c .loop-t .t ≡ 16 = omega arith in (
       ap (λ (k : ℕ). take k (c .loop-t .words)) (sym end) ∙ c .loop-t .inv .0
           ∙ ap (λ (k : ℕ). map (λ t. word-at (c .args .block .now) (4 * t)) (counting 0 k)) end,
       c .loop-t .inv .1,
     )
 
-pub loop-n-again : need.loop-n-again
-loop-n-again c =
+pub loop-j-again : need.loop-j-again
+loop-j-again c =
     let block = c .args .block .now in
-    let n = c .loop-n .n in
-    let w = c .loop-n .words in
+    let n = 8 * c .loop-i .i + c .loop-j .j in
+    let w = c .loop-j .words in
     let y = next-word w n in
     let inside : n + 16 < length w = omega arith in
     let e = take-more-set w (n + 16) y inside in
     let f = grown-more block n in
-    let g = next-of w (grown block n) n (c .loop-n .inv .0) in
-    let i = c .loop-n .inv .0 in
-    let next : n + 1 + 16 ≡ n + 16 + 1 = omega arith in
-    (cc, simp length-set (c .loop-n .inv .1))
+    let g = next-of w (grown block n) n (c .loop-j .inv .0) in
+    let i = c .loop-j .inv .0 in
+    let next : 8 * c .loop-i .i + (c .loop-j .j + 1) + 16 ≡ n + 16 + 1 = omega arith in
+    let more : 8 * c .loop-i .i + (c .loop-j .j + 1) ≡ n + 1 = omega arith in
+    (cc, simp length-set (c .loop-j .inv .1))
 
 pub returns : need.returns
 returns c =
-    let end : c .loop-n .n ≡ 48 = omega arith in
-    sym (take-all 64 (c .loop-n .words) (omega arith))
-    ∙ ap (λ (k : ℕ). take (k + 16) (c .loop-n .words)) (sym end)
-    ∙ c .loop-n .inv .0
+    let end : 8 * c .loop-i .i ≡ 48 = omega arith in
+    sym (take-all 64 (c .loop-i .words) (omega arith))
+    ∙ ap (λ (k : ℕ). take (k + 16) (c .loop-i .words)) (sym end)
+    ∙ c .loop-i .inv .0
     ∙ ap (λ (k : ℕ). grown (c .args .block .now) k) end

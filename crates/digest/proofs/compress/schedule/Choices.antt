@@ -11,5 +11,8 @@ abbrev pub Inv-loop-t : given.InvT-loop-t
 Inv-loop-t l =
     (take (l .t) (l .words) ≡ map (λ t. word-at (l .block) (4 * t)) (counting 0 (l .t))) × (length (l .words) ≡ 64)
 
-abbrev pub Inv-loop-n : given.InvT-loop-n
-Inv-loop-n l = (take (l .n + 16) (l .words) ≡ grown (l .block) (l .n)) × (length (l .words) ≡ 64)
+abbrev pub Inv-loop-i : given.InvT-loop-i
+Inv-loop-i l = (take (8 * l .i + 16) (l .words) ≡ grown (l .block) (8 * l .i)) × (length (l .words) ≡ 64)
+
+abbrev pub Inv-loop-j : given.InvT-loop-j
+Inv-loop-j l = (take (8 * l .i + l .j + 16) (l .words) ≡ grown (l .block) (8 * l .i + l .j)) × (length (l .words) ≡ 64)
