@@ -1,0 +1,45 @@
+-- What `blind` answers.
+use mathlib.Core.Path.{_≡_}
+use mathlib.Core.Bool.{not}
+use mathlib.Core.List.{List, [], _∷_, _++_}
+use Prim.Native.Nat.{ℕ, zero, suc, _+_, _*_, _/_, _%_}
+use lib.Dec.{eqb, ltb}
+use lib.ListN.{length, take, drop}
+use Rattle.std.specs.declared.result.Result.{Result}
+use Rattle.std.specs.declared.result.Result.the-variants.{Ok, Err}
+use Rattle.faults.specs.declared.WireFault.the-variants.{ShortScratch, WrongLength, WrongCount, ShortOutlet}
+use Rattle.faults.specs.declared.RingFault.the-variants.{NotOpen}
+use Rattle.faults.specs.declared.BatchFault.{BatchFault}
+use Rattle.faults.specs.declared.BatchFault.the-variants.{Wire, Ring}
+use Rattle.group.specs.Model.{Model}
+use Rattle.voprf.specs.Blinding.{blinded}
+use Rattle.messages.specs.Answers.{ruled}
+use Rattle.messages.specs.Messages.{Batch, no-count, request-bytes, request-length}
+use Rattle.token.specs.Tokens.{then, of-group, element-of}
+use Rattle.client.specs.Batches.{of-item, input-of, opened}
+
+module _ {E S K : Type 0} (m : Model E S K) where
+  -- the codes of the blinded items from place i on, n of them, after those in front
+  unfoldable pub blind-codes : ℕ → E → ℕ → ℕ → List ℕ → List ℕ → List ℕ → Result (List ℕ) BatchFault
+  blind-codes epoch pk i zero seeds blinds front = Ok front
+  blind-codes epoch pk i (suc n) seeds blinds front =
+      then (of-item i (opened m (input-of m epoch pk (take 64 seeds)) (take (m .scalars .width) blinds))) (λ r.
+      blind-codes epoch pk (i + 1) n (drop 64 seeds) (drop (m .scalars .width) blinds)
+        (front ++ m .code (blinded m r (input-of m epoch pk (take 64 seeds)))))
+
+  -- the request, or the first fault in the order of the checks
+  unfoldable pub blind-answer : ℕ → ℕ → List ℕ → List ℕ → List ℕ → ℕ → Result (List ℕ) BatchFault
+  blind-answer scratch epoch code seeds blinds outlet =
+      let n = length seeds / 64 in
+      ruled
+        ((ltb scratch 1024, Wire ShortScratch)
+       ∷ (eqb epoch 0, Ring NotOpen)
+       ∷ (not (eqb (length code) (m .element-width)), Wire WrongLength)
+       ∷ (not (eqb (length seeds % 64) 0), Wire WrongLength)
+       ∷ (no-count n, Wire WrongCount)
+       ∷ (not (eqb (length blinds) (n * m .scalars .width)), Wire WrongLength)
+       ∷ [])
+      (then (of-group (element-of m code)) (λ pk.
+       ruled ((ltb outlet (request-length m n), Wire ShortOutlet) ∷ [])
+       (then (blind-codes epoch pk 0 n seeds blinds []) (λ codes.
+        Ok (request-bytes m (record { epoch = epoch; count = n; items = codes }))))))

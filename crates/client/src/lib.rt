@@ -1,0 +1,2 @@
+// The client: what a shop calls to order tokens.
+pub mod items;
