@@ -16,6 +16,7 @@ use Rattle.voprf.specs.Blinding.{blinded}
 use Rattle.messages.specs.Answers.{ruled}
 use Rattle.messages.specs.Messages.{Batch, no-count, request-bytes, request-length}
 use Rattle.token.specs.Tokens.{then, of-group, element-of}
+use Rattle.client.specs.declared.Pending.{Pending}
 use Rattle.client.specs.Batches.{of-item, input-of, opened}
 
 module _ {E S K : Type 0} (m : Model E S K) where
@@ -43,3 +44,8 @@ module _ {E S K : Type 0} (m : Model E S K) where
        ruled ((ltb outlet (request-length m n), Wire ShortOutlet) ∷ [])
        (then (blind-codes epoch pk 0 n seeds blinds []) (λ codes.
         Ok (request-bytes m (record { epoch = epoch; count = n; items = codes }))))))
+
+-- what the call gives: a pending batch of the epoch and of n items where the request is written
+abbrev pub begun : ℕ → ℕ → Result (List ℕ) BatchFault → Result Pending BatchFault
+begun epoch n (Ok bytes) = Ok (record { epoch = epoch; count = n })
+begun epoch n (Err f) = Err f
