@@ -20,7 +20,7 @@ module _ {E S K : Type 0} (m : Model E S K) (epoch : ℕ) (pk : E) where
       blind-codes m epoch pk i (n - i) seeds blinds front ≡
       then (of-item i (opened m (input-of m epoch pk (take 64 seeds)) (take (m .scalars .width) blinds))) (λ r.
       blind-codes m epoch pk (i + 1) (n - (i + 1)) (drop 64 seeds) (drop (m .scalars .width) blinds)
-        (front ++ m .code (blinded m r (input-of m epoch pk (take 64 seeds)))))
+      (front ++ m .code (blinded m r (input-of m epoch pk (take 64 seeds)))))
   unfolding blind-codes
   more i n seeds blinds front h =
       let one : n - i ≡ suc (n - (i + 1)) = omega arith in ap (λ (k : ℕ). blind-codes m epoch pk i k seeds blinds front) one
@@ -41,9 +41,9 @@ module _ {E S K : Type 0} (m : Model E S K) (epoch : ℕ) (pk : E) where
       let all : k ≡ w = omega arith in
       let whole : input ≡ input-of m epoch pk (take 64 here) = is ∙ ap (λ (p : ℕ). input-of m epoch pk (take p here)) long in
       let F : Result K BatchFault → List ℕ → List ℕ → List ℕ → Result (List ℕ) BatchFault =
-          λ x s b inp. then x (λ y. blind-codes m epoch pk (i + 1) (n - (i + 1)) s b (front ++ m .code (blinded m y inp))) in
+      λ x s b inp. then x (λ y. blind-codes m epoch pk (i + 1) (n - (i + 1)) s b (front ++ m .code (blinded m y inp))) in
       let told : r ≡ of-item i (opened m (input-of m epoch pk (take 64 here)) (take w there)) =
-          tells ∙ ap (of-item i) (opens ∙ ap (λ (p : ℕ). opened m input (take p there)) all ∙ ap (λ (x : List ℕ). opened m x (take w there)) whole) in
+      tells ∙ ap (of-item i) (opens ∙ ap (λ (p : ℕ). opened m input (take p there)) all ∙ ap (λ (x : List ℕ). opened m x (take w there)) whole) in
       ap (λ x. F x (drop (64 * (i + 1)) seeds) (drop (at + width) blinds) input) told
       ∙ ap (λ (s : List ℕ). F (of-item i (opened m (input-of m epoch pk (take 64 here)) (take w there))) s (drop (at + width) blinds) input) seeded
       ∙ ap (λ (b : List ℕ). F (of-item i (opened m (input-of m epoch pk (take 64 here)) (take w there))) (drop 64 here) b input) blinded-on

@@ -30,7 +30,11 @@ pub fn input<G: Group>(epoch: u16, pk: G, seed: &[u8]) -> [u8; 100]
 }
 
 // The blind of an item, where the input does not map to the null.
-pub fn open<G: Group>(bytes: &mut [u8], input: &[u8; 100], blind: &[u8]) -> Result<G::NonZero, GroupFault>
+pub fn open<G: Group>(
+    bytes: &mut [u8],
+    input: &[u8; 100],
+    blind: &[u8],
+) -> Result<G::NonZero, GroupFault>
     requires { ⌜ 1024 ≤ length (now bytes) ⌝ }
     ensures { λ r. ⌜ r ≡ opened model (now (input .entry)) (now (blind .entry)) ⌝ }
 {
@@ -48,12 +52,23 @@ fn of_item<T>(place: u8, answer: Result<T, GroupFault>) -> Result<T, BatchFault>
 {
     match answer {
         Ok(x) => Ok(x),
-        Err(fault) => Err(BatchFault::Item { item: place + 1, fault }),
+        Err(fault) => Err(BatchFault::Item {
+            item: place + 1,
+            fault,
+        }),
     }
 }
 
 // Puts the codes of the blinded items in a row from the front of `codes`, and answers where they end.
-pub fn blind_items<G: Group>(bytes: &mut [u8], epoch: u16, pk: G, seeds: &[u8], blinds: &[u8], count: u8, codes: &mut [u8; 128]) -> Result<usize, BatchFault>
+pub fn blind_items<G: Group>(
+    bytes: &mut [u8],
+    epoch: u16,
+    pk: G,
+    seeds: &[u8],
+    blinds: &[u8],
+    count: u8,
+    codes: &mut [u8; 128],
+) -> Result<usize, BatchFault>
     requires room { ⌜ 1024 ≤ length (now bytes) ⌝ }
     requires few { ⌜ count ≤ 16 ⌝ }
     requires seeds { ⌜ length (now seeds) ≡ 64 * count ⌝ }

@@ -11,4 +11,4 @@ Inv-loop-i g l =
     × (l .end ≡ l .i * g .G·Group .model .element-width)
     × (length (l .codes) ≡ 128)
     × (blind-codes (g .G·Group .model) (l .epoch) (l .pk) (l .i) (l .count - l .i) (drop (64 * l .i) (l .seeds)) (drop (l .at) (l .blinds)) (take (l .end) (l .codes))
-        ≡ blind-codes (g .G·Group .model) (l .epoch) (l .pk) 0 (l .count) (l .seeds) (l .blinds) [])
+    ≡ blind-codes (g .G·Group .model) (l .epoch) (l .pk) 0 (l .count) (l .seeds) (l .blinds) [])
