@@ -1,0 +1,2 @@
+pub mod Blinds
+pub mod Answers
