@@ -3,7 +3,7 @@ use mathlib.Core.List.{List, _++_}
 use Prim.Native.Nat.{ℕ, _+_, _-_}
 use native.Mathlib.Omega.{arith}
 use lib.ListN.{length, take}
-use Rattle.std.proofs.shelf.Parts.{take-putMid}
+use Rattle.std.proofs.shelf.Parts.{take-putMid, drop-putMid}
 use Rattle.hashing.proofs.put.Needs as need
 
 pub returns : need.returns
@@ -18,4 +18,7 @@ returns c =
           take-putMid at (at + length part - at) bytes (c .copy-from-slice .last .self) (at + length part)
           (ap (λ (l : List ℕ). at + length l) (mathlib.Core.Path.sym copied)) (omega arith)
           ∙ ap (λ (l : List ℕ). take at bytes ++ l) copied;
+      rest =
+          drop-putMid at (at + length part - at) bytes (c .copy-from-slice .last .self) (at + length part) (omega arith) (omega arith)
+          (ap length copied ∙ omega arith);
     }
