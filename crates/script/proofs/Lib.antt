@@ -1,0 +1,4 @@
+pub mod Arguing
+pub mod Doing
+pub mod Printing
+pub mod Table

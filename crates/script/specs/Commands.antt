@@ -1,0 +1,26 @@
+-- The words that call commands.
+use mathlib.Core.Bool.{cond}
+use mathlib.Core.List.{List, [], _∷_}
+use Prim.Native.Nat.{ℕ}
+use lib.Chars.{codes}
+use Rattle.std.specs.declared.option.Option.{Option}
+use Rattle.std.specs.declared.option.Option.the-variants.{None, Some}
+use Rattle.std.specs.shelf.Text.{sameBytes}
+use Rattle.script.specs.declared.commands.Command.{Command}
+use Rattle.script.specs.declared.commands.Command.the-variants.{Digest}
+
+-- all the commands
+abbrev pub commands : List Command
+commands = Digest ∷ []
+
+abbrev pub word-of : Command → List ℕ
+word-of Digest = codes "digest"
+
+-- the first of some commands that a word calls
+abbrev pub called : List Command → List ℕ → Option Command
+called [] w = None
+called (c ∷ cs) w = cond (sameBytes (word-of c) w) (Some c) (called cs w)
+
+-- the command that a word calls
+abbrev pub command-of : List ℕ → Option Command
+command-of w = called commands w

@@ -1,0 +1,6 @@
+pub mod Arguments
+pub mod Commands
+pub mod Kept
+pub mod Reports
+pub mod Sessions
+pub mod Statements
