@@ -7,17 +7,23 @@ use Rattle.std.specs.declared.option.Option.{Option}
 use Rattle.std.specs.declared.option.Option.the-variants.{None, Some}
 use Rattle.std.specs.shelf.Text.{sameBytes}
 use Rattle.script.specs.declared.commands.Command.{Command}
-use Rattle.script.specs.declared.commands.Command.the-variants.{Digest}
+use Rattle.script.specs.declared.commands.Command.the-variants.{Digest, Group, Decode, Map, Base, Input, Direct}
 
 -- all the commands
 abbrev pub commands : List Command
-commands = Digest ∷ []
+commands = Digest ∷ Group ∷ Decode ∷ Map ∷ Base ∷ Input ∷ Direct ∷ []
 
 abbrev pub word-of : Command → List ℕ
 word-of Digest = codes "digest"
+word-of Group = codes "group"
+word-of Decode = codes "decode"
+word-of Map = codes "map"
+word-of Base = codes "base"
+word-of Input = codes "input"
+word-of Direct = codes "direct"
 
 -- the first of some commands that a word calls
-abbrev pub called : List Command → List ℕ → Option Command
+unfoldable pub called : List Command → List ℕ → Option Command
 called [] w = None
 called (c ∷ cs) w = cond (sameBytes (word-of c) w) (Some c) (called cs w)
 

@@ -6,10 +6,30 @@ ghost use Rattle.script.specs.Commands.{word-of, command-of};
 pub enum Command {
     // `digest BYTES` answers the 32 bytes of their digest
     Digest,
+    // `group NAME` chooses the group for the lines below
+    Group,
+    // `decode CODE` tells whether bytes are the code of an element
+    Decode,
+    // `map BYTES` answers the code of the element that 32 bytes map to
+    Map,
+    // `base SCALAR` answers the code of the scalar's base multiple
+    Base,
+    // `input EPOCH NONCE CONTEXT PK` answers the 100 bytes of a token input
+    Input,
+    // `direct KEY INPUT` answers the 32 bytes of the input's authenticator
+    Direct,
 }
 
 // All the commands.
-const COMMANDS: [Command; 1] = [Command::Digest];
+const COMMANDS: [Command; 7] = [
+    Command::Digest,
+    Command::Group,
+    Command::Decode,
+    Command::Map,
+    Command::Base,
+    Command::Input,
+    Command::Direct,
+];
 
 impl Command {
     // The command that a word calls.
@@ -30,6 +50,12 @@ impl Command {
     {
         match self {
             Command::Digest => "digest",
+            Command::Group => "group",
+            Command::Decode => "decode",
+            Command::Map => "map",
+            Command::Base => "base",
+            Command::Input => "input",
+            Command::Direct => "direct",
         }
     }
 }

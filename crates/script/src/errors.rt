@@ -21,6 +21,10 @@ pub enum LineFault {
     UnknownName { word: usize },
     // what is kept has no token of this number
     NoToken { word: usize },
+    // no number where one of two bytes is needed
+    NoNumber { word: usize },
+    // no group of this name
+    UnknownGroup { word: usize },
     // no memory is left for what the line says
     Memory,
 }
@@ -60,6 +64,11 @@ pub impl fmt::Display for LineFault as LineFaultDisplay {
                 f,
                 "word {word}: there is no token of this number"
             ),
+            LineFault::NoNumber { word } => write!(
+                f,
+                "word {word} is no number from 0 to 65535 in decimal"
+            ),
+            LineFault::UnknownGroup { word } => write!(f, "word {word} is no group"),
             LineFault::Memory => write!(f, "no memory is left"),
         }
     }
