@@ -19,12 +19,13 @@ use Rattle.std.specs.shelf.Text.{sameBytes}
 use Rattle.script.specs.Arguments.{Table}
 use Rattle.script.specs.Reports.{Said, bytes, done, number, flag, chose, outcome-of}
 use Rattle.script.specs.Statements.{Parts, command-at, statement}
-use Rattle.script.specs.Tasks.{Asked, digest, group, decode, map, base, input, direct, then, asked}
+use Rattle.script.specs.Tasks.{Asked, digest, group, decode, map, base, input, direct, book, call, then, asked, asked-of}
 use Rattle.script.specs.declared.answers.Answer.{Answer}
 use Rattle.script.specs.declared.answers.Report.{Report}
 use Rattle.script.specs.declared.commands.Command.{Command}
 use Rattle.script.specs.declared.errors.LineFault.{LineFault}
-use Rattle.script.specs.declared.errors.LineFault.the-variants.{Memory}
+use Rattle.script.specs.declared.session.Order.{Order}
+use Rattle.script.specs.declared.errors.LineFault.the-variants.{NoBook, Memory}
 
 -- what a command says, or what is wrong with its line
 abbrev pub Outcome : Type 0
@@ -45,19 +46,21 @@ abbrev pub silent : Result (Unit {0}) BatchFault → Result Said Refusal
 silent (Ok u) = Ok done
 silent (Err f) = Err (batch-tells f)
 
--- what each task says, in the group that is chosen
-abbrev pub performed : Kind → Asked → Result Said Refusal
-performed k (digest bs) = wired (digested bs)
-performed k (group g) = Ok (chose g)
-performed k (decode code) = silent (decode-in k code)
-performed k (map bs) = batched (map-in k bs)
-performed k (base code) = batched (base-in k code)
-performed k (input e nonce context pk) = batched (input-in k e nonce context pk)
-performed k (direct key i) = batched (direct-in k key i)
+-- what each task says, in the group that is chosen; what is asked of a book, a session has none to ask
+abbrev pub performed : Kind → Asked → Outcome
+performed k (digest bs) = Ok (wired (digested bs))
+performed k (group g) = Ok (Ok (chose g))
+performed k (decode code) = Ok (silent (decode-in k code))
+performed k (map bs) = Ok (batched (map-in k bs))
+performed k (base code) = Ok (batched (base-in k code))
+performed k (input e nonce context pk) = Ok (batched (input-in k e nonce context pk))
+performed k (direct key i) = Ok (batched (direct-in k key i))
+performed k (book s n) = Err NoBook
+performed k (call c) = Err NoBook
 
 -- what each command says: its words are read, and what they ask for is done
 abbrev pub says : Kind → Table → Command → ℕ → List (List ℕ) → Outcome
-says k table c at ws = then (asked table c at ws) (λ a. Ok (performed k a))
+says k table c at ws = then (asked table c at ws) (performed k)
 
 -- what a statement does: the command, what it says, and the name that keeps it
 pub record Step : Type 0 where
@@ -122,3 +125,15 @@ Carries ws before after k l (Ok None) = (meaning k before ws ≡ Ok None) × ((n
 Carries ws before after k l (Ok (Some r)) =
     (s : Step) × (meaning k before ws ≡ Ok (Some s)) × Tells s r × ((n : List ℕ) → after n ≡ kept (s .name) (s .outcome) before n) × (l ≡ chosen (s .outcome) k)
 Carries ws before after k l (Err f) = (((f ≡ Memory) × Calls ws) ⊎ (meaning k before ws ≡ Err f)) × ((n : List ℕ) → after n ≡ before n) × (l ≡ k)
+
+-- what the words of a line ask, with their command
+abbrev pub ordered : Table → Result (Option Parts) LineFault → Result (Option (Command × Asked)) LineFault
+ordered table (Err f) = Err f
+ordered table (Ok None) = Ok None
+ordered table (Ok (Some p)) = then (asked table (p .command) (command-at (p .name) + 1) (p .arguments)) (λ a. Ok (Some (p .command, a)))
+
+-- an order is what the words of its line ask, or memory is wanting
+abbrev pub Orders : List (List ℕ) → Table → Result (Option Order) LineFault → Type 0
+Orders ws table (Ok None) = ordered table (statement ws) ≡ Ok None
+Orders ws table (Ok (Some o)) = ordered table (statement ws) ≡ Ok (Some (o .command, asked-of (o .task)))
+Orders ws table (Err f) = (f ≡ Memory) ⊎ (ordered table (statement ws) ≡ Err f)

@@ -1,8 +1,10 @@
 -- What a line asks for, from the words after its command.
 use mathlib.Core.Path.{_≡_}
+use mathlib.Core.Bool.{cond}
 use mathlib.Core.List.{List, [], _∷_}
 use mathlib.Core.Logic.{_⊎_}
 use Prim.Native.Nat.{ℕ, _+_}
+use lib.Chars.{codes}
 use Rattle.std.specs.Of.Vec.{vec-items}
 use Rattle.std.specs.declared.alloc.Global.{Global}
 use Rattle.std.specs.declared.option.Option.{Option}
@@ -10,17 +12,31 @@ use Rattle.std.specs.declared.option.Option.the-variants.{None, Some}
 use Rattle.std.specs.declared.result.Result.{Result}
 use Rattle.std.specs.declared.result.Result.the-variants.{Ok, Err}
 use Rattle.std.specs.declared.vec.Vec.{Vec}
+use Rattle.std.specs.shelf.Text.{sameBytes}
 use Rattle.commands.specs.Calls.{kind-of}
 use Rattle.commands.specs.declared.Kind.{Kind}
 use Rattle.text.specs.Decimals.{numeral}
 use Rattle.text.specs.declared.decimal.NumberFault.{NumberFault}
 use Rattle.script.specs.Arguments.{Table, argument}
 use Rattle.script.specs.declared.commands.Command.{Command}
-use Rattle.script.specs.declared.commands.Command.the-variants.{Digest, Group, Decode, Map, Base, Input, Direct}
+use Rattle.script.specs.declared.commands.Command.the-variants.{Digest, Group, Decode, Map, Base, Input, Direct, Book, Mark, Has, Drop, Size, Clear, Image}
 use Rattle.script.specs.declared.errors.LineFault.{LineFault}
-use Rattle.script.specs.declared.errors.LineFault.the-variants.{MissingWord, ExtraWord, NoNumber, UnknownGroup, Memory}
+use Rattle.script.specs.declared.errors.LineFault.the-variants.{MissingWord, ExtraWord, NoNumber, UnknownGroup, UnknownBook, Memory}
+use Rattle.script.specs.declared.tasks.Call as tasks
+use Rattle.script.specs.declared.tasks.Call.the-variants as the-call
+use Rattle.script.specs.declared.tasks.Shelf.{Shelf}
+use Rattle.script.specs.declared.tasks.Shelf.the-variants.{Chained, Tape}
 use Rattle.script.specs.declared.tasks.Task.{Task}
 use Rattle.script.specs.declared.tasks.Task.the-variants as task
+
+-- what is asked of a book
+pub data Called : Type 0 where
+  mark : ℕ → List ℕ → Called
+  has : ℕ → List ℕ → Called
+  drop : ℕ → Called
+  size : Called
+  clear : Called
+  image : Called
 
 -- what a line asks for
 pub data Asked : Type 0 where
@@ -31,6 +47,8 @@ pub data Asked : Type 0 where
   base : List ℕ → Asked
   input : ℕ → List ℕ → List ℕ → List ℕ → Asked
   direct : List ℕ → List ℕ → Asked
+  book : Shelf → ℕ → Asked
+  call : Called → Asked
 
 -- the next step, or what is wrong with the line
 abbrev pub then : {T U : Type 0} → Result T LineFault → (T → Result U LineFault) → Result U LineFault
@@ -57,10 +75,23 @@ abbrev pub as-number : ℕ → Result ℕ NumberFault → Result ℕ LineFault
 as-number at (Ok n) = Ok n
 as-number at (Err f) = Err (NoNumber at)
 
--- the number of two bytes that the first word writes
-abbrev pub first-number : ℕ → List (List ℕ) → Result ℕ LineFault
-first-number at [] = Err (MissingWord at)
-first-number at (w ∷ ws) = as-number at (numeral 65535 w)
+-- the number, not above a largest one, that the first word writes
+abbrev pub first-number : ℕ → ℕ → List (List ℕ) → Result ℕ LineFault
+first-number most at [] = Err (MissingWord at)
+first-number most at (w ∷ ws) = as-number at (numeral most w)
+
+-- the kind of book of a name
+unfoldable pub shelf-of : List ℕ → Option Shelf
+shelf-of w = cond (sameBytes w (codes "chained")) (Some Chained) (cond (sameBytes w (codes "tape")) (Some Tape) None)
+
+abbrev pub as-shelf : ℕ → Option Shelf → Result Shelf LineFault
+as-shelf at None = Err (UnknownBook at)
+as-shelf at (Some s) = Ok s
+
+-- the kind of book that the first word names
+abbrev pub first-shelf : ℕ → List (List ℕ) → Result Shelf LineFault
+first-shelf at [] = Err (MissingWord at)
+first-shelf at (w ∷ ws) = as-shelf at (shelf-of w)
 
 -- the group that the only word names
 abbrev pub as-kind : ℕ → List (List ℕ) → Option Kind → Result Kind LineFault
@@ -89,8 +120,26 @@ asked table Decode at ws = then (one-of table at ws) (λ bs. Ok (decode bs))
 asked table Map at ws = then (one-of table at ws) (λ bs. Ok (map bs))
 asked table Base at ws = then (one-of table at ws) (λ bs. Ok (base bs))
 asked table Input at ws =
-    then (first-number at ws) (λ e. then (three-of table (at + 1) (rest-of ws)) (λ b. Ok (input e (b .0) (b .1) (b .2))))
+    then (first-number 65535 at ws) (λ e. then (three-of table (at + 1) (rest-of ws)) (λ b. Ok (input e (b .0) (b .1) (b .2))))
 asked table Direct at ws = then (two-of table at ws) (λ b. Ok (direct (b .0) (b .1)))
+asked table Book at ws =
+    then (first-shelf at ws) (λ s. then (first-number 65536 (at + 1) (rest-of ws)) (λ n.
+    then (at-end (at + 2) (rest-of (rest-of ws))) (λ _. Ok (book s n))))
+asked table Mark at ws = then (first-number 65535 at ws) (λ e. then (one-of table (at + 1) (rest-of ws)) (λ n. Ok (call (mark e n))))
+asked table Has at ws = then (first-number 65535 at ws) (λ e. then (one-of table (at + 1) (rest-of ws)) (λ n. Ok (call (has e n))))
+asked table Drop at ws = then (first-number 65535 at ws) (λ e. then (at-end (at + 1) (rest-of ws)) (λ _. Ok (call (drop e))))
+asked table Size at ws = then (at-end at ws) (λ _. Ok (call size))
+asked table Clear at ws = then (at-end at ws) (λ _. Ok (call clear))
+asked table Image at ws = then (at-end at ws) (λ _. Ok (call image))
+
+-- the same of a call on a book
+abbrev pub called-of : tasks.Call → Called
+called-of (the-call.Mark e n) = mark e (vec-items n)
+called-of (the-call.Has e n) = has e (vec-items n)
+called-of (the-call.Drop e) = drop e
+called-of the-call.Size = size
+called-of the-call.Clear = clear
+called-of the-call.Image = image
 
 -- the same of a task
 abbrev pub asked-of : Task → Asked
@@ -101,6 +150,8 @@ asked-of (task.Map bytes) = map (vec-items bytes)
 asked-of (task.Base scalar) = base (vec-items scalar)
 asked-of (task.Input e nonce context pk) = input e (vec-items nonce) (vec-items context) (vec-items pk)
 asked-of (task.Direct key i) = direct (vec-items key) (vec-items i)
+asked-of (task.Book s n) = book s n
+asked-of (task.Call c) = call (called-of c)
 
 -- the bytes of the first word are had and the word is taken, or memory is wanting
 abbrev pub Brings : Table → ℕ → List (List ℕ) → List (List ℕ) → Result (Vec ℕ Global) LineFault → Type 0
@@ -108,9 +159,14 @@ Brings table at before after (Ok bs) = (first-bytes table at before ≡ Ok (vec-
 Brings table at before after (Err f) = (f ≡ Memory) ⊎ (first-bytes table at before ≡ Err f)
 
 -- the same of a number, which needs no memory
-abbrev pub Numbers : ℕ → List (List ℕ) → List (List ℕ) → Result ℕ LineFault → Type 0
-Numbers at before after (Ok n) = (first-number at before ≡ Ok n) × (after ≡ rest-of before)
-Numbers at before after (Err f) = first-number at before ≡ Err f
+abbrev pub Numbers : ℕ → ℕ → List (List ℕ) → List (List ℕ) → Result ℕ LineFault → Type 0
+Numbers most at before after (Ok n) = (first-number most at before ≡ Ok n) × (after ≡ rest-of before)
+Numbers most at before after (Err f) = first-number most at before ≡ Err f
+
+-- the same of a kind of book
+abbrev pub Shelves : ℕ → List (List ℕ) → List (List ℕ) → Result Shelf LineFault → Type 0
+Shelves at before after (Ok s) = (first-shelf at before ≡ Ok s) × (after ≡ rest-of before)
+Shelves at before after (Err f) = first-shelf at before ≡ Err f
 
 -- all the words are had, or memory is wanting
 abbrev pub One : Table → ℕ → List (List ℕ) → Result (Vec ℕ Global) LineFault → Type 0

@@ -18,10 +18,24 @@ pub enum Command {
     Input,
     // `direct KEY INPUT` answers the 32 bytes of the input's authenticator
     Direct,
+    // `book KIND LENGTH` makes a lone book over so many bytes, and answers its capacity
+    Book,
+    // `mark EPOCH NONCE` adds a pair to it
+    Mark,
+    // `has EPOCH NONCE` tells whether a pair is in it
+    Has,
+    // `drop EPOCH` takes out the pairs of an epoch, and answers how many they were
+    Drop,
+    // `size` answers how many pairs are in it
+    Size,
+    // `clear` takes every pair out
+    Clear,
+    // `image` answers the bytes that it lies in
+    Image,
 }
 
 // All the commands.
-const COMMANDS: [Command; 7] = [
+const COMMANDS: [Command; 14] = [
     Command::Digest,
     Command::Group,
     Command::Decode,
@@ -29,6 +43,13 @@ const COMMANDS: [Command; 7] = [
     Command::Base,
     Command::Input,
     Command::Direct,
+    Command::Book,
+    Command::Mark,
+    Command::Has,
+    Command::Drop,
+    Command::Size,
+    Command::Clear,
+    Command::Image,
 ];
 
 impl Command {
@@ -56,6 +77,13 @@ impl Command {
             Command::Base => "base",
             Command::Input => "input",
             Command::Direct => "direct",
+            Command::Book => "book",
+            Command::Mark => "mark",
+            Command::Has => "has",
+            Command::Drop => "drop",
+            Command::Size => "size",
+            Command::Clear => "clear",
+            Command::Image => "image",
         }
     }
 }

@@ -21,10 +21,14 @@ pub enum LineFault {
     UnknownName { word: usize },
     // what is kept has no token of this number
     NoToken { word: usize },
-    // no number where one of two bytes is needed
+    // no number, or one that is too large
     NoNumber { word: usize },
     // no group of this name
     UnknownGroup { word: usize },
+    // no kind of book of this name
+    UnknownBook { word: usize },
+    // a call on a book where there is none
+    NoBook,
     // no memory is left for what the line says
     Memory,
 }
@@ -66,9 +70,11 @@ pub impl fmt::Display for LineFault as LineFaultDisplay {
             ),
             LineFault::NoNumber { word } => write!(
                 f,
-                "word {word} is no number from 0 to 65535 in decimal"
+                "word {word} is no number in decimal, or too large a one"
             ),
             LineFault::UnknownGroup { word } => write!(f, "word {word} is no group"),
+            LineFault::UnknownBook { word } => write!(f, "word {word} is no kind of book"),
+            LineFault::NoBook => write!(f, "there is no book"),
             LineFault::Memory => write!(f, "no memory is left"),
         }
     }

@@ -9,10 +9,11 @@ ghost use Rattle.commands.specs.declared.Kind.the-variants.{Res2039};
 ghost use Rattle.text.specs.Lines.{line-words};
 ghost use Rattle.script.specs.Kept.{holds};
 ghost use Rattle.script.specs.Reports.{outcome-of, bytes};
-ghost use Rattle.script.specs.Sessions.{performed, batched, chosen, Answers, Stores, Carries};
+ghost use Rattle.script.specs.Sessions.{performed, batched, chosen, Answers, Stores, Carries, Orders};
 ghost use Rattle.script.specs.Tasks.{asked-of};
 use crate::answers::Answer;
 use crate::answers::Report;
+use crate::commands::Command;
 use crate::errors::LineFault;
 use crate::errors::LineFaultFromAlloc;
 use crate::names::Names;
@@ -27,6 +28,13 @@ use faults::Refusal;
 use faults::WireTells;
 use numbers::Code;
 use std::alloc::Global;
+
+// A command, and what its line asks.
+#[derive(Drop)]
+pub struct Order {
+    pub command: Command,
+    pub task: Task,
+}
 
 // What a script has kept and chosen so far, and where it takes memory from.
 #[derive(Drop)]
@@ -68,9 +76,39 @@ impl Session {
         }))
     }
 
+    // What a line asks, with its command; none, where it has no words.
+    pub fn order(&self, line: &[u8]) -> Result<Option<Order>, LineFault>
+        ensures { λ r. ⌜ Orders (line-words (now (line .entry))) (holds (now (self .entry) .names)) r ⌝ }
+    {
+        let Some(statement) = statements::parse(line)? else {
+            return Ok(None);
+        };
+        let task = tasks::read(statement, &self.names, self.heap)?;
+        Ok(Some(Order {
+            command: statement.command,
+            task,
+        }))
+    }
+
+    // Keeps what a book answered to a line, where the line has a name for it.
+    pub fn settle(
+        &mut self,
+        line: &[u8],
+        outcome: &Result<Answer, Refusal>,
+    ) -> Result<(), LineFault>
+        ensures group { λ _. ⌜ now (self .exit) .kind ≡ now (self .entry) .kind ⌝ }
+    {
+        if let Some(statement) = statements::parse(line)? {
+            if let Some(name) = statement.name {
+                self.keep(name, outcome)?;
+            }
+        }
+        Ok(())
+    }
+
     // What a task answers, or how it is refused.
     fn perform(&self, task: Task) -> Result<Result<Answer, Refusal>, LineFault>
-        ensures { λ r. ⌜ Answers (Ok (performed (now (self .entry) .kind) (asked-of task))) r ⌝ }
+        ensures { λ r. ⌜ Answers (performed (now (self .entry) .kind) (asked-of task)) r ⌝ }
     {
         let kind = self.kind;
         match task {
@@ -98,6 +136,8 @@ impl Session {
                 Ok(bytes) => self.bytes(&bytes),
                 Err(fault) => Ok(Err(fault.refusal())),
             },
+            Task::Book { .. } => Err(LineFault::NoBook),
+            Task::Call { .. } => Err(LineFault::NoBook),
         }
     }
 

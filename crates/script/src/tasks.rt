@@ -5,7 +5,7 @@ ghost use Rattle.std.specs.Options.{mapped};
 ghost use Rattle.text.specs.Lines.{left};
 ghost use Rattle.script.specs.Kept.{holds};
 ghost use Rattle.script.specs.Statements.{command-at};
-ghost use Rattle.script.specs.Tasks.{asked, at-end, kind-at, Brings, Numbers, One, Two, Three, Asks};
+ghost use Rattle.script.specs.Tasks.{asked, at-end, kind-at, shelf-of, Brings, Numbers, Shelves, One, Two, Three, Asks};
 use crate::arguments;
 use crate::commands::Command;
 use crate::errors::LineFault;
@@ -45,7 +45,37 @@ pub enum Task {
         key: Vec<u8>,
         input: Vec<u8>,
     },
+    // a lone book is to be made
+    Book {
+        shelf: Shelf,
+        length: u64,
+    },
+    // a call on the book
+    Call {
+        call: Call,
+    },
 }
+
+// The kinds of book.
+#[derive(Clone, Copy, PartialEq, Eq, Debug)]
+pub enum Shelf {
+    Chained,
+    Tape,
+}
+
+// What is asked of a book.
+#[derive(Drop)]
+pub enum Call {
+    Mark { epoch: u16, nonce: Vec<u8> },
+    Has { epoch: u16, nonce: Vec<u8> },
+    Drop { epoch: u16 },
+    Size,
+    Clear,
+    Image,
+}
+
+// The most bytes that a lone book lies in.
+const LONGEST: u64 = 65536;
 
 // Reads the words after the command: as many as it needs, and no more.
 pub fn read(statement: Statement<'_>, names: &Names, heap: Global) -> Result<Task, LineFault>
@@ -88,6 +118,45 @@ pub fn read(statement: Statement<'_>, names: &Names, heap: Global) -> Result<Tas
             let (key, input) = two(words, at, names, heap)?;
             Ok(Task::Direct { key, input })
         }
+        Command::Book => {
+            let shelf = shelf_named(&mut words, at)?;
+            let length = number(&mut words, at + 1, LONGEST)?;
+            end(words, at + 2)?;
+            Ok(Task::Book { shelf, length })
+        }
+        Command::Mark => {
+            let epoch = epoch(&mut words, at)?;
+            let nonce = one(words, at + 1, names, heap)?;
+            Ok(Task::Call {
+                call: Call::Mark { epoch, nonce },
+            })
+        }
+        Command::Has => {
+            let epoch = epoch(&mut words, at)?;
+            let nonce = one(words, at + 1, names, heap)?;
+            Ok(Task::Call {
+                call: Call::Has { epoch, nonce },
+            })
+        }
+        Command::Drop => {
+            let epoch = epoch(&mut words, at)?;
+            end(words, at + 1)?;
+            Ok(Task::Call {
+                call: Call::Drop { epoch },
+            })
+        }
+        Command::Size => {
+            end(words, at)?;
+            Ok(Task::Call { call: Call::Size })
+        }
+        Command::Clear => {
+            end(words, at)?;
+            Ok(Task::Call { call: Call::Clear })
+        }
+        Command::Image => {
+            end(words, at)?;
+            Ok(Task::Call { call: Call::Image })
+        }
     }
 }
 
@@ -108,9 +177,22 @@ fn argument(
     Ok(bytes)
 }
 
+// The number that the next word writes, where it is not above `most`.
+fn number(words: &mut Words<'_>, at: usize, most: u64) -> Result<u64, LineFault>
+    ensures { λ r. ⌜ Numbers most at (left (now (words .entry))) (left (now (words .exit))) r ⌝ }
+{
+    let Some(word) = words.take() else {
+        return Err(LineFault::MissingWord { word: at });
+    };
+    match decimal::read(word, most) {
+        Ok(number) => Ok(number),
+        Err(_) => Err(LineFault::NoNumber { word: at }),
+    }
+}
+
 // The epoch that the next word writes.
 fn epoch(words: &mut Words<'_>, at: usize) -> Result<u16, LineFault>
-    ensures { λ r. ⌜ Numbers at (left (now (words .entry))) (left (now (words .exit))) r ⌝ }
+    ensures { λ r. ⌜ Numbers 65535 at (left (now (words .entry))) (left (now (words .exit))) r ⌝ }
 {
     let Some(word) = words.take() else {
         return Err(LineFault::MissingWord { word: at });
@@ -120,6 +202,38 @@ fn epoch(words: &mut Words<'_>, at: usize) -> Result<u16, LineFault>
         Err(_) => Err(LineFault::NoNumber { word: at }),
     }
 }
+
+// The kind of book that the next word names.
+fn shelf_named(words: &mut Words<'_>, at: usize) -> Result<Shelf, LineFault>
+    ensures { λ r. ⌜ Shelves at (left (now (words .entry))) (left (now (words .exit))) r ⌝ }
+{
+    let Some(word) = words.take() else {
+        return Err(LineFault::MissingWord { word: at });
+    };
+    match Shelf::of(word) {
+        Some(shelf) => Ok(shelf),
+        None => Err(LineFault::UnknownBook { word: at }),
+    }
+}
+
+impl Shelf {
+    // The kind of this name.
+    pub fn of(word: &[u8]) -> Option<Shelf>
+        ensures { λ r. ⌜ r ≡ shelf-of (now (word .entry)) ⌝ }
+    {
+        if word == CHAINED {
+            return Some(Shelf::Chained);
+        }
+        if word == TAPE {
+            return Some(Shelf::Tape);
+        }
+        None
+    }
+}
+
+const CHAINED: &[u8] = b"chained";
+
+const TAPE: &[u8] = b"tape";
 
 // The group that the only word names.
 fn kind(mut words: Words<'_>, at: usize) -> Result<Kind, LineFault>

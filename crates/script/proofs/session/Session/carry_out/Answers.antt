@@ -25,7 +25,7 @@ returns c =
     ] in (
       record { name = mapped now (st .name); command = st .command; outcome = o },
       ap (carried k before) (sym (c .in-Continue-statement .ensures tt) ∙ ap (λ s. parsed (Ok s)) (c .in-Some .is)) ∙
-          ap (λ a. step (parts st) (then a (λ a. Ok (performed k a)))) (c .in-Continue-task .ensures tt) ∙ ap (step (parts st)) (c .in-Continue-outcome .ensures tt),
+          ap (λ a. step (parts st) (then a (performed k))) (c .in-Continue-task .ensures tt) ∙ ap (step (parts st)) (c .in-Continue-outcome .ensures tt),
       (refl, refl),
       (λ n. elim (c .match-statement .came) [
         | in-Some-name·in-Continue-keep w ↦
