@@ -1,4 +1,3 @@
 pub mod Arguing
-pub mod Doing
 pub mod Printing
 pub mod Table

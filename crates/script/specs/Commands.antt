@@ -7,17 +7,30 @@ use Rattle.std.specs.declared.option.Option.{Option}
 use Rattle.std.specs.declared.option.Option.the-variants.{None, Some}
 use Rattle.std.specs.shelf.Text.{sameBytes}
 use Rattle.script.specs.declared.commands.Command.{Command}
-use Rattle.script.specs.declared.commands.Command.the-variants.{Digest}
+use Rattle.script.specs.declared.commands.Command.the-variants.{Digest, Group, Decode, Map, Base, Input, Direct, Book, Mark, Has, Drop, Size, Clear, Image}
 
 -- all the commands
 abbrev pub commands : List Command
-commands = Digest ∷ []
+commands = Digest ∷ Group ∷ Decode ∷ Map ∷ Base ∷ Input ∷ Direct ∷ Book ∷ Mark ∷ Has ∷ Drop ∷ Size ∷ Clear ∷ Image ∷ []
 
 abbrev pub word-of : Command → List ℕ
 word-of Digest = codes "digest"
+word-of Group = codes "group"
+word-of Decode = codes "decode"
+word-of Map = codes "map"
+word-of Base = codes "base"
+word-of Input = codes "input"
+word-of Direct = codes "direct"
+word-of Book = codes "book"
+word-of Mark = codes "mark"
+word-of Has = codes "has"
+word-of Drop = codes "drop"
+word-of Size = codes "size"
+word-of Clear = codes "clear"
+word-of Image = codes "image"
 
 -- the first of some commands that a word calls
-abbrev pub called : List Command → List ℕ → Option Command
+unfoldable pub called : List Command → List ℕ → Option Command
 called [] w = None
 called (c ∷ cs) w = cond (sameBytes (word-of c) w) (Some c) (called cs w)
 

@@ -4,3 +4,4 @@ pub mod Kept
 pub mod Reports
 pub mod Sessions
 pub mod Statements
+pub mod Tasks

@@ -4,6 +4,7 @@ use mathlib.Core.Bool.{Bool, true, false}
 use mathlib.Core.List.{List, [], _∷_}
 use Prim.Native.Nat.{ℕ}
 use lib.Chars.{codes}
+use Rattle.commands.specs.declared.Kind.{Kind}
 use Rattle.faults.specs.Numbers.{layer-name}
 use Rattle.faults.specs.declared.Refusal.{Refusal}
 use Rattle.std.specs.Joined.{joined}
@@ -15,7 +16,7 @@ use Rattle.text.specs.Hexadecimal as hex
 use Rattle.script.specs.Arguments.{Table, argument}
 use Rattle.script.specs.Commands.{word-of}
 use Rattle.script.specs.declared.answers.Answer.{Answer}
-use Rattle.script.specs.declared.answers.Answer.the-variants.{Done, Number, Flag, Bytes}
+use Rattle.script.specs.declared.answers.Answer.the-variants.{Done, Number, Flag, Bytes, Chose}
 use Rattle.script.specs.declared.answers.Report.{Report}
 
 -- texts one after another
@@ -37,12 +38,14 @@ pub data Said : Type 0 where
   number : ℕ → Said
   flag : Bool → Said
   bytes : List ℕ → Said
+  chose : Kind → Said
 
 abbrev pub said : Answer → Said
 said Done = done
 said (Number n) = number n
 said (Flag b) = flag b
 said (Bytes bs) = bytes (vec-items bs)
+said (Chose k) = chose k
 
 abbrev pub outcome-of : Result Answer Refusal → Result Said Refusal
 outcome-of (Ok a) = Ok (said a)
@@ -51,6 +54,7 @@ outcome-of (Err f) = Err f
 -- what comes after the command's word
 abbrev pub told : Result Said Refusal → List (List ℕ)
 told (Ok done) = codes ": ok" ∷ []
+told (Ok (chose k)) = codes ": ok" ∷ []
 told (Ok (number n)) = codes ": ok " ∷ decimal n ∷ []
 told (Ok (flag b)) = codes ": ok " ∷ yes-no b ∷ []
 told (Ok (bytes bs)) = codes ": ok " ∷ in-script bs ∷ []

@@ -3,6 +3,7 @@ ghost use mathlib.Core.Path.{_≡_};
 ghost use Rattle.text.specs.Appending.{Appends};
 ghost use Rattle.script.specs.Reports.{printed, Answers-are-arguments};
 use crate::commands::Command;
+use commands::Kind;
 use faults::Refusal;
 use std::alloc::AllocError;
 use text::pieces;
@@ -16,6 +17,8 @@ pub enum Answer {
     // `yes` or `no`
     Flag(bool),
     Bytes(Vec<u8>),
+    // the group that was chosen, which is not printed
+    Chose(Kind),
 }
 
 // A command that was carried out: what it answered, or how it was refused.
@@ -33,6 +36,7 @@ impl Report {
         let word = Piece::Text(self.command.word());
         match &self.outcome {
             Ok(Answer::Done) => pieces::write(&[word, Piece::Text(": ok")], line),
+            Ok(Answer::Chose(_)) => pieces::write(&[word, Piece::Text(": ok")], line),
             Ok(Answer::Number(number)) => {
                 pieces::write(&[word, Piece::Text(": ok "), Piece::Number(*number)], line)
             }

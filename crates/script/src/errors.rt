@@ -21,6 +21,14 @@ pub enum LineFault {
     UnknownName { word: usize },
     // what is kept has no token of this number
     NoToken { word: usize },
+    // no number, or one that is too large
+    NoNumber { word: usize },
+    // no group of this name
+    UnknownGroup { word: usize },
+    // no kind of book of this name
+    UnknownBook { word: usize },
+    // a call on a book where there is none
+    NoBook,
     // no memory is left for what the line says
     Memory,
 }
@@ -60,6 +68,13 @@ pub impl fmt::Display for LineFault as LineFaultDisplay {
                 f,
                 "word {word}: there is no token of this number"
             ),
+            LineFault::NoNumber { word } => write!(
+                f,
+                "word {word} is no number in decimal, or too large a one"
+            ),
+            LineFault::UnknownGroup { word } => write!(f, "word {word} is no group"),
+            LineFault::UnknownBook { word } => write!(f, "word {word} is no kind of book"),
+            LineFault::NoBook => write!(f, "there is no book"),
             LineFault::Memory => write!(f, "no memory is left"),
         }
     }

@@ -1,5 +1,6 @@
 // The parts of a line.
 ghost use mathlib.Core.Path.{_≡_};
+ghost use Prim.Native.Nat.{_<_};
 ghost use Rattle.std.specs.Options.{mapped};
 ghost use Rattle.text.specs.Lines.{left, line-words};
 ghost use Rattle.script.specs.Statements.{command-at, calling, naming, statement, parsed};
@@ -22,8 +23,9 @@ pub struct Statement<'a> {
 }
 
 // Which word of the line is the command: the first, or the third where there is a name.
-pub(crate) fn command_at(name: Option<&[u8]>) -> usize
-    ensures { λ r. ⌜ r ≡ command-at (mapped now (name .entry)) ⌝ }
+pub fn command_at(name: Option<&[u8]>) -> usize
+    ensures place { λ r. ⌜ r ≡ command-at (mapped now (name .entry)) ⌝ }
+    ensures early { λ r. ⌜ r < 4 ⌝ }
 {
     if name.is_some() { 3 } else { 1 }
 }

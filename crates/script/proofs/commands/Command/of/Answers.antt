@@ -16,6 +16,7 @@ use Rattle.script.proofs.commands.Command.of.Needs as need
 -- one command looked at, by whether the word is its word
 step : (w : List ℕ) (i : ℕ) (b : Bool) → i < length commands → sameBytes (word-of (getD commands i Digest)) w ≡ b →
     called (drop i commands) w ≡ cond b (Some (getD commands i Digest)) (called (drop (i + 1) commands) w)
+unfolding called
 step w i b h e =
     let one : called (drop i commands) w ≡ cond (sameBytes (word-of (getD commands i Digest)) w) (Some (getD commands i Digest)) (called (drop (i + 1) commands) w) =
     at-drop-more (λ cs. called cs w) commands i Digest h in
@@ -32,5 +33,6 @@ loop-command-again c =
     sym (step (c .args .word .now) (c .loop-command .command-index) false (c .loop-command-test .taken) other) ∙ c .loop-command .inv
 
 pub returns : need.returns
+unfolding called
 returns c =
     sym (at-drop-all (λ cs. called cs (c .args .word .now)) commands (c .loop-command .command-index) (c .loop-command-test .left)) ∙ c .loop-command .inv
