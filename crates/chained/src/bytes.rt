@@ -7,6 +7,7 @@ ghost use Rattle.std.specs.Orderings.{Decides};
 ghost use Rattle.chains.specs.Tables.{Entry, at, head, pair-of, with-head, with-size, with-entry, with-next, zeroed};
 ghost use Rattle.chained.specs.Layout.{word, place, table-of, Written};
 use chains::CHAINS;
+use std::simd::prelude::*;
 
 // Where the size stands, behind the heads.
 const SIZE: usize = 130;
@@ -48,13 +49,8 @@ fn nonce_at(m: &[u8], at: usize, nonce: &[u8; 32]) -> bool
     requires { ⌜ at + 32 ≤ length (now m) ⌝ }
     ensures { λ r. ⌜ Decides r (take 32 (drop at (now (m .entry))) ≡ now (nonce .entry)) ⌝ }
 {
-    let mut same = true;
-    for i in 0..32 {
-        if m[at + i] != nonce[i] {
-            same = false;
-        }
-    }
-    same
+    let stored = u8x32::from_slice(&m[at..at + 32]);
+    stored.simd_eq(u8x32::from_array(*nonce)).all()
 }
 
 // Whether there is a record of this number.

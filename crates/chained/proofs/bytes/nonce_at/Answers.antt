@@ -1,51 +1,61 @@
 use mathlib.Core.Path.{_≡_, refl, sym, ap, subst, _∙_}
-use mathlib.Core.Bool.{Bool, true, false}
-use mathlib.Core.List.{List}
+use mathlib.Core.Bool.{true, false, cond}
+use mathlib.Core.List.{List, [], _∷_, map}
 use mathlib.Core.Logic.{⊎-elim}
-use Prim.Native.Nat.{ℕ, _+_, _<_, _≤_}
+use Prim.Native.Nat.{ℕ, suc, _+_, _-_, _*_, _^_, _%_}
 use native.Mathlib.Omega.{arith}
-use lib.ListN.{length, getD, take, drop}
-use Rattle.std.proofs.shelf.Tests.{cases-lt, false≢true}
-use Rattle.std.proofs.shelf.Lists.{same-lists, getD-default}
-use Rattle.chained.proofs.Frames.{length-nonce, nonce-getD}
-use Rattle.chained.proofs.bytes.nonce_at.Needs.{then-m-at, else-m-at}
+use native.Mathlib.Nat.{pow-succ'}
+use mir.Syntax.{w8}
+use mir.Val.{bits, hbits}
+use lib.Dec.{eqb}
+use lib.Lanes.{maskL, top, zip2}
+use lib.ListN.{length, take, drop}
+use Rattle.std.specs.Orderings.{Decides}
+use Rattle.std.proofs.shelf.Tests.{cases-eq, eq-eqb, ne-eqb, eqb-true}
+use Rattle.std.proofs.shelf.Lanes.{tops-compared, maskL-mod, length-zip2}
+use Rattle.std.proofs.shelf.Lists.{take-take}
+use Rattle.chained.proofs.Frames.{length-nonce}
 use Rattle.chained.proofs.bytes.nonce_at.Needs as need
 
--- the first i bytes are the nonce's
-abbrev Agree : List ℕ → ℕ → List ℕ → ℕ → Type 0
-Agree m at nonce i = (k : ℕ) → k < i → getD m (at + k) 0 ≡ getD nonce k 0
-
-agree-more : (m nonce : List ℕ) (at i : ℕ) → Agree m at nonce i → getD m (at + i) 0 ≡ getD nonce i 0 → Agree m at nonce (i + 1)
-agree-more m nonce at i before here k b =
+-- every bit of the mask is set where the lists are the same, and only there
+full-same : (xs ys : List ℕ) → length xs ≡ length ys → maskL (zip2 eqb xs ys) + 1 ≡ 2 ^ length xs → xs ≡ ys
+full-same [] [] l e = refl
+full-same [] (y ∷ ys) l e = absurd (omega arith)
+full-same (x ∷ xs) [] l e = absurd (omega arith)
+full-same (x ∷ xs) (y ∷ ys) l e =
+    let p : 2 ^ length (x ∷ xs) ≡ 2 * 2 ^ length xs = pow-succ' 2 (length xs) in
     ⊎-elim
-    (λ (l : k < i). before k l)
-    (λ (l : i ≤ k). let e : i ≡ k = omega arith in subst (λ j. getD m (at + j) 0 ≡ getD nonce j 0) e here)
-    (cases-lt k i)
+    (λ (q : x ≡ y).
+      let f : cond true 1 0 + 2 * maskL (zip2 eqb xs ys) + 1 ≡ 2 ^ length (x ∷ xs) = ap (λ b. cond b 1 0 + 2 * maskL (zip2 eqb xs ys) + 1) (sym (eq-eqb x y q)) ∙ e in
+      let r = full-same xs ys (omega arith) (omega arith) in
+      ap (λ z. z ∷ xs) q ∙ ap (λ zs. y ∷ zs) r)
+    (λ (q : x ≡ y → ⊥).
+      let f : cond false 1 0 + 2 * maskL (zip2 eqb xs ys) + 1 ≡ 2 ^ length (x ∷ xs) = ap (λ b. cond b 1 0 + 2 * maskL (zip2 eqb xs ys) + 1) (sym (ne-eqb x y q)) ∙ e in
+      absurd (omega arith))
+    (cases-eq x y)
 
-agree-whole : (m nonce : List ℕ) (at : ℕ) → at + 32 ≤ length m → length nonce ≡ 32 → Agree m at nonce 32 → take 32 (drop at m) ≡ nonce
-agree-whole m nonce at h l agree =
-    let lm = length-nonce m at h in
-    same-lists _ _ (lm ∙ sym l) (λ k d b.
-    let small : k < 32 = omega arith in
-    nonce-getD m at k d h small ∙ agree k small ∙ getD-default nonce k 0 d (omega arith))
+same-full : (xs : List ℕ) → maskL (zip2 eqb xs xs) + 1 ≡ 2 ^ length xs
+same-full [] = refl
+same-full (x ∷ xs) =
+    let p : 2 ^ length (x ∷ xs) ≡ 2 * 2 ^ length xs = pow-succ' 2 (length xs) in
+    let r = same-full xs in
+    ap (λ b. cond b 1 0 + 2 * maskL (zip2 eqb xs xs) + 1) (eq-eqb x x refl) ∙ omega arith
 
-whole-agree : (m nonce : List ℕ) (at : ℕ) → at + 32 ≤ length m → take 32 (drop at m) ≡ nonce → Agree m at nonce 32
-whole-agree m nonce at h e k b = sym (nonce-getD m at k 0 h b) ∙ ap (λ xs. getD xs k 0) e
-
-pub loop-i-holds : need.loop-i-holds
-loop-i-holds c = (λ t k b. absurd (omega arith), λ a. refl)
-
-pub loop-i-again : need.loop-i-again
-loop-i-again c = elim (c .if-m-at .came) [
-    then-m-at w ↦ (λ t. absurd (false≢true (sym (w .same-is) ∙ t)), λ a. absurd (w .if-m-at .taken (a (c .loop-i .i) (omega arith))))
-  | else-m-at w ↦ (
-      λ t. agree-more (c .args .m .now) (c .args .nonce .now) (c .args .at) (c .loop-i .i) (c .loop-i .inv .0 (sym (w .same-is) ∙ t)) (w .if-m-at .left),
-      λ a. w .same-is ∙ c .loop-i .inv .1 (λ k b. a k (omega arith)),
+-- what the comparison of the lanes tells
+lanes-decide : (zs xs ys : List ℕ) → zs ≡ xs → length xs ≡ 32 → length ys ≡ 32 → Decides (eqb (maskL (map (top (hbits w8)) (zip2 (λ a b. cond (eqb a b) (2 ^ bits w8 - 1) 0) zs ys)) % 2 ^ 64) 4294967295) (xs ≡ ys)
+lanes-decide zs xs ys e lx ly =
+    let long : length zs ≡ 32 = ap length e ∙ lx in
+    let lz = length-zip2 eqb zs ys (long ∙ sym ly) in
+    let read = ap (λ bs. maskL bs % 2 ^ 64) (tops-compared w8 eqb zs ys) ∙ maskL-mod (zip2 eqb zs ys) 64 (omega arith) in
+    let most : 2 ^ length zs ≡ 4294967296 = ap (λ n. 2 ^ n) long in (
+      λ t. let f = sym read ∙ eqb-true _ _ t in sym e ∙ full-same zs ys (long ∙ sym ly) (ap (λ n. n + 1) f ∙ sym most),
+      λ q. eq-eqb _ _ (read ∙ ap (λ us. maskL (zip2 eqb zs us)) (sym (e ∙ q)) ∙ (let g = same-full zs in omega arith)),
     )
-  ]
 
 pub returns : need.returns
-returns c = (
-    λ t. agree-whole (c .args .m .now) (c .args .nonce .now) (c .args .at) (c .pre) (c .told-nonce) (λ k b. c .loop-i .inv .0 t k (omega arith)),
-    λ e. c .loop-i .inv .1 (λ k b. whole-agree (c .args .m .now) (c .args .nonce .now) (c .args .at) (c .pre) e k (omega arith)),
-  )
+returns c =
+    let m = c .args .m .now in
+    let at = c .args .at in
+    let n : (at + 32) - at ≡ 32 = omega arith in
+    let stored : take 32 (take ((at + 32) - at) (drop at m)) ≡ take 32 (drop at m) = ap (λ k. take 32 (take k (drop at m))) n ∙ take-take 32 32 (drop at m) (omega arith) in
+    lanes-decide _ (take 32 (drop at m)) (c .args .nonce .now) stored (length-nonce m at (c .pre)) (c .told-nonce)
