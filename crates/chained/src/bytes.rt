@@ -43,14 +43,14 @@ fn put_nonce(m: &mut [u8], at: usize, nonce: &[u8; 32])
     m[at..at + 32].copy_from_slice(nonce);
 }
 
-// Whether a nonce stands at a byte. There is no way out at the first byte that differs, so that all 32 are
-// compared in a few instructions, which at the end of a walk is faster than byte by byte.
+// Whether a nonce stands at a byte. All 32 bytes are compared at once: a walk along a chain then has one
+// branch a record for the nonce, and the compiler lays the whole comparison into the walk.
 fn nonce_at(m: &[u8], at: usize, nonce: &[u8; 32]) -> bool
     requires { ⌜ at + 32 ≤ length (now m) ⌝ }
     ensures { λ r. ⌜ Decides r (take 32 (drop at (now (m .entry))) ≡ now (nonce .entry)) ⌝ }
 {
     let stored = u8x32::from_slice(&m[at..at + 32]);
-    stored.simd_eq(u8x32::from_array(*nonce)).all()
+    stored.simd_eq(u8x32::from_slice(nonce)).all()
 }
 
 // Whether there is a record of this number.

@@ -1,16 +1,14 @@
-use mathlib.Core.Path.{_≡_, refl, ap, sym, subst, _∙_}
+use mathlib.Core.Path.{_≡_, ap, sym, _∙_}
 use mathlib.Core.Bool.{true, false}
 use mathlib.Core.List.{List}
 use Prim.Native.Nat.{ℕ, _+_, _-_}
-use native.Mathlib.Omega.{arith}
 use lib.ListN.{take, drop}
-use Rattle.std.specs.Orderings.{Decides}
 use Rattle.std.proofs.shelf.Tests.{false≢true, eqb-true}
 use Rattle.std.proofs.shelf.Ways.{not-from-decides}
 use Rattle.std.proofs.shelf.Equals.{matches-decides}
 use Rattle.book.specs.Meaning.{Pair}
-use Rattle.chains.specs.Tables.{Entry, pair-of, at}
-use Rattle.chained.specs.Layout.{word, place, record-at, table-of}
+use Rattle.chains.specs.Tables.{pair-of}
+use Rattle.chained.specs.Layout.{word}
 use Rattle.chained.proofs.Writes.{read-record, read-none}
 use Rattle.chained.proofs.bytes.holds.Needs as need
 

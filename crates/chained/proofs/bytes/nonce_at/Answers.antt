@@ -13,7 +13,7 @@ use lib.ListN.{length, take, drop}
 use Rattle.std.specs.Orderings.{Decides}
 use Rattle.std.proofs.shelf.Tests.{cases-eq, eq-eqb, ne-eqb, eqb-true}
 use Rattle.std.proofs.shelf.Lanes.{tops-compared, maskL-mod, length-zip2}
-use Rattle.std.proofs.shelf.Lists.{take-take}
+use Rattle.std.proofs.shelf.Lists.{take-all, take-take}
 use Rattle.chained.proofs.Frames.{length-nonce}
 use Rattle.chained.proofs.bytes.nonce_at.Needs as need
 
@@ -26,12 +26,12 @@ full-same (x ∷ xs) (y ∷ ys) l e =
     let p : 2 ^ length (x ∷ xs) ≡ 2 * 2 ^ length xs = pow-succ' 2 (length xs) in
     ⊎-elim
     (λ (q : x ≡ y).
-      let f : cond true 1 0 + 2 * maskL (zip2 eqb xs ys) + 1 ≡ 2 ^ length (x ∷ xs) = ap (λ b. cond b 1 0 + 2 * maskL (zip2 eqb xs ys) + 1) (sym (eq-eqb x y q)) ∙ e in
-      let r = full-same xs ys (omega arith) (omega arith) in
-      ap (λ z. z ∷ xs) q ∙ ap (λ zs. y ∷ zs) r)
+    let f : cond true 1 0 + 2 * maskL (zip2 eqb xs ys) + 1 ≡ 2 ^ length (x ∷ xs) = ap (λ b. cond b 1 0 + 2 * maskL (zip2 eqb xs ys) + 1) (sym (eq-eqb x y q)) ∙ e in
+    let r = full-same xs ys (omega arith) (omega arith) in
+    ap (λ z. z ∷ xs) q ∙ ap (λ zs. y ∷ zs) r)
     (λ (q : x ≡ y → ⊥).
-      let f : cond false 1 0 + 2 * maskL (zip2 eqb xs ys) + 1 ≡ 2 ^ length (x ∷ xs) = ap (λ b. cond b 1 0 + 2 * maskL (zip2 eqb xs ys) + 1) (sym (ne-eqb x y q)) ∙ e in
-      absurd (omega arith))
+    let f : cond false 1 0 + 2 * maskL (zip2 eqb xs ys) + 1 ≡ 2 ^ length (x ∷ xs) = ap (λ b. cond b 1 0 + 2 * maskL (zip2 eqb xs ys) + 1) (sym (ne-eqb x y q)) ∙ e in
+    absurd (omega arith))
     (cases-eq x y)
 
 same-full : (xs : List ℕ) → maskL (zip2 eqb xs xs) + 1 ≡ 2 ^ length xs
@@ -42,14 +42,15 @@ same-full (x ∷ xs) =
     ap (λ b. cond b 1 0 + 2 * maskL (zip2 eqb xs xs) + 1) (eq-eqb x x refl) ∙ omega arith
 
 -- what the comparison of the lanes tells
-lanes-decide : (zs xs ys : List ℕ) → zs ≡ xs → length xs ≡ 32 → length ys ≡ 32 → Decides (eqb (maskL (map (top (hbits w8)) (zip2 (λ a b. cond (eqb a b) (2 ^ bits w8 - 1) 0) zs ys)) % 2 ^ 64) 4294967295) (xs ≡ ys)
-lanes-decide zs xs ys e lx ly =
-    let long : length zs ≡ 32 = ap length e ∙ lx in
-    let lz = length-zip2 eqb zs ys (long ∙ sym ly) in
-    let read = ap (λ bs. maskL bs % 2 ^ 64) (tops-compared w8 eqb zs ys) ∙ maskL-mod (zip2 eqb zs ys) 64 (omega arith) in
-    let most : 2 ^ length zs ≡ 4294967296 = ap (λ n. 2 ^ n) long in (
-      λ t. let f = sym read ∙ eqb-true _ _ t in sym e ∙ full-same zs ys (long ∙ sym ly) (ap (λ n. n + 1) f ∙ sym most),
-      λ q. eq-eqb _ _ (read ∙ ap (λ us. maskL (zip2 eqb zs us)) (sym (e ∙ q)) ∙ (let g = same-full zs in omega arith)),
+lanes-decide : (zs ws xs ys : List ℕ) → zs ≡ xs → ws ≡ ys → length xs ≡ 32 → length ys ≡ 32 → Decides (eqb (maskL (map (top (hbits w8)) (zip2 (λ a b. cond (eqb a b) (2 ^ bits w8 - 1) 0) zs ws)) % 2 ^ 64) 4294967295) (xs ≡ ys)
+lanes-decide zs ws xs ys e f lx ly =
+    let lz : length zs ≡ 32 = ap length e ∙ lx in
+    let lw : length ws ≡ 32 = ap length f ∙ ly in
+    let long = length-zip2 eqb zs ws (lz ∙ sym lw) in
+    let read = ap (λ bs. maskL bs % 2 ^ 64) (tops-compared w8 eqb zs ws) ∙ maskL-mod (zip2 eqb zs ws) 64 (omega arith) in
+    let most : 2 ^ length zs ≡ 4294967296 = ap (λ n. 2 ^ n) lz in (
+      λ t. let full = sym read ∙ eqb-true _ _ t in sym e ∙ full-same zs ws (lz ∙ sym lw) (ap (λ n. n + 1) full ∙ sym most) ∙ f,
+      λ q. eq-eqb _ _ (read ∙ ap (λ us. maskL (zip2 eqb zs us)) (f ∙ sym q ∙ sym e) ∙ (let full = same-full zs in omega arith)),
     )
 
 pub returns : need.returns
@@ -58,4 +59,4 @@ returns c =
     let at = c .args .at in
     let n : (at + 32) - at ≡ 32 = omega arith in
     let stored : take 32 (take ((at + 32) - at) (drop at m)) ≡ take 32 (drop at m) = ap (λ k. take 32 (take k (drop at m))) n ∙ take-take 32 32 (drop at m) (omega arith) in
-    lanes-decide _ (take 32 (drop at m)) (c .args .nonce .now) stored (length-nonce m at (c .pre)) (c .told-nonce)
+    lanes-decide _ _ (take 32 (drop at m)) (c .args .nonce .now) stored (take-all 32 (c .args .nonce .now) (omega (arith, c .told-nonce))) (length-nonce m at (c .pre)) (c .told-nonce)
