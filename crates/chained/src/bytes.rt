@@ -7,6 +7,7 @@ ghost use Rattle.std.specs.Orderings.{Decides};
 ghost use Rattle.chains.specs.Tables.{Entry, at, head, pair-of, with-head, with-size, with-entry, with-next, zeroed};
 ghost use Rattle.chained.specs.Layout.{word, place, table-of, Written};
 use chains::CHAINS;
+use std::simd::prelude::*;
 
 // Where the size stands, behind the heads.
 const SIZE: usize = 130;
@@ -40,6 +41,16 @@ fn put_nonce(m: &mut [u8], at: usize, nonce: &[u8; 32])
     ensures others { λ _. ⌜ ((k : ℕ) → (k < at) ⊎ (at + 32 ≤ k) → getD (now (m .exit)) k 0 ≡ getD (now (m .entry)) k 0) ⌝ }
 {
     m[at..at + 32].copy_from_slice(nonce);
+}
+
+// Whether a nonce stands at a byte. All 32 bytes are compared at once: a walk along a chain then has one
+// branch a record for the nonce, and the compiler lays the whole comparison into the walk.
+fn nonce_at(m: &[u8], at: usize, nonce: &[u8; 32]) -> bool
+    requires { ⌜ at + 32 ≤ length (now m) ⌝ }
+    ensures { λ r. ⌜ Decides r (take 32 (drop at (now (m .entry))) ≡ now (nonce .entry)) ⌝ }
+{
+    let stored = u8x32::from_slice(&m[at..at + 32]);
+    stored.simd_eq(u8x32::from_slice(nonce)).all()
 }
 
 // Whether there is a record of this number.
@@ -114,16 +125,14 @@ pub fn holds(m: &[u8], capacity: u16, number: u16, epoch: u16, nonce: &[u8; 32])
     requires { ⌜ place capacity ≤ length (now m) ⌝ }
     ensures { λ r. ⌜ Decides r (pair-of (at (table-of capacity (now (m .entry))) number) ≡ (epoch, now (nonce .entry))) ⌝ }
 {
-    let sought: &[u8] = nonce;
     if !is_record(capacity, number) {
-        return epoch == 0 && sought == &[0; 32];
+        return epoch == 0 && nonce == &[0; 32];
     }
     let at = start(number);
     if word_at(m, at + 2) != epoch {
         return false;
     }
-    let stored = &m[at + 4..at + 36];
-    stored == sought
+    nonce_at(m, at + 4, nonce)
 }
 
 pub fn put_next(m: &mut [u8], capacity: u16, number: u16, next: u16)

@@ -1,16 +1,14 @@
-use mathlib.Core.Path.{_≡_, refl, ap, sym, subst, _∙_}
+use mathlib.Core.Path.{_≡_, ap, sym, _∙_}
 use mathlib.Core.Bool.{true, false}
 use mathlib.Core.List.{List}
 use Prim.Native.Nat.{ℕ, _+_, _-_}
-use native.Mathlib.Omega.{arith}
 use lib.ListN.{take, drop}
-use Rattle.std.specs.Orderings.{Decides}
 use Rattle.std.proofs.shelf.Tests.{false≢true, eqb-true}
 use Rattle.std.proofs.shelf.Ways.{not-from-decides}
 use Rattle.std.proofs.shelf.Equals.{matches-decides}
 use Rattle.book.specs.Meaning.{Pair}
-use Rattle.chains.specs.Tables.{Entry, pair-of, at}
-use Rattle.chained.specs.Layout.{word, place, record-at, table-of}
+use Rattle.chains.specs.Tables.{pair-of}
+use Rattle.chained.specs.Layout.{word}
 use Rattle.chained.proofs.Writes.{read-record, read-none}
 use Rattle.chained.proofs.bytes.holds.Needs as need
 
@@ -41,11 +39,9 @@ returns-then-word-at-epoch c =
 pub returns : need.returns
 returns c =
     let m = c .args .m .now in
-    let start = c .start-at .result in
     let some = c .is-record .ensures .0 (c .if-not-is-record .left) in
     let there = ap pair-of (read-record (c .args .capacity) m (c .args .number) (some .0) (some .1)) in
     let read = c .word-at .ensures ∙ ap (λ x. word m (x + 2)) (c .start-at .ensures) in
-    let e : (start + 36) - (start + 4) ≡ 32 = omega arith in
-    let f : take ((start + 36) - (start + 4)) (drop (start + 4) m) ≡ take 32 (drop (place (c .args .number - 1) + 4) m) = ap (λ n. take n (drop (start + 4) m)) e ∙ ap (λ x. take 32 (drop (x + 4) m)) (c .start-at .ensures) in
-    let d = matches-decides _ _ _ (c .eq-2 .ensures) in
+    let f = ap (λ x. take 32 (drop (x + 4) m)) (c .start-at .ensures) in
+    let d = c .nonce-at .ensures in
     (λ t. there ∙ pair-is _ _ _ _ (sym read ∙ c .if-word-at-epoch .left) (sym f ∙ d .0 t), λ p. d .1 (f ∙ ap (λ (q : Pair). q .1) (sym there ∙ p)))
