@@ -142,14 +142,12 @@ pub extern "C" fn dilkortxi_chained_look_ups(
     ensures none { λ r. ⌜ (length (now (memory .entry)) < 168 → r ≡ 0) ⌝ }
     ensures stays { λ r. ⌜ (length (now (memory .entry)) < 168 → now (memory .exit) ≡ now (memory .entry)) ⌝ }
 {
-    chained::with_book(
-        memory,
-        LookUps {
-            marked,
-            sought,
-            rounds,
-        },
-    ).unwrap_or(0)
+    let work = LookUps {
+        marked,
+        sought,
+        rounds,
+    };
+    chained::with_book(memory, work).unwrap_or(0)
 }
 
 // The same in a tape.
@@ -164,12 +162,10 @@ pub extern "C" fn dilkortxi_tape_look_ups(
     ensures none { λ r. ⌜ (length (now (memory .entry)) < 36 → r ≡ 0) ⌝ }
     ensures stays { λ r. ⌜ (length (now (memory .entry)) < 36 → now (memory .exit) ≡ now (memory .entry)) ⌝ }
 {
-    tape::with_book(
-        memory,
-        LookUps {
-            marked,
-            sought,
-            rounds,
-        },
-    ).unwrap_or(0)
+    let work = LookUps {
+        marked,
+        sought,
+        rounds,
+    };
+    tape::with_book(memory, work).unwrap_or(0)
 }
