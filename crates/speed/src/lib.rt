@@ -1,7 +1,8 @@
 // What the benchmarks link: calls of the part behind C signatures, so that a harness in C can time them beside
 // other implementations and compare the answers. A slice passes as a pointer and a length.
 ghost use mathlib.Core.Path.{_≡_};
-ghost use Prim.Native.Nat.{_<_};
+ghost use Prim.Native.Nat.{_*_, _/_, _<_, _≤_};
+ghost use denote.Ref.{now};
 ghost use lib.ListN.{length};
 ghost use Rattle.circ523.specs.Kind.{points};
 ghost use Rattle.res2039.specs.Kind.{residues};
@@ -99,7 +100,7 @@ struct LookUps<'a, 'b> {
 impl<'a, 'b> Work for LookUps<'a, 'b> as LookUpsAreWork {
     type Answer = u32;
 
-    ghost told = { λ w b r. Unit {0} };
+    ghost told = { λ w b r. r ≤ w .rounds * (length (now (w .sought)) / 32) };
 
     fn on<B: Book + Drop>(self, book: B) -> u32 {
         let mut book = book;
@@ -116,7 +117,9 @@ impl<'a, 'b> Work for LookUps<'a, 'b> as LookUpsAreWork {
 }
 
 // How many of the nonces that stand in a row are in the book.
-fn found_in<B: Book>(book: &B, sought: &[u8]) -> u32 {
+fn found_in<B: Book>(book: &B, sought: &[u8]) -> u32
+    ensures { λ r. ⌜ r ≤ length (now (sought .entry)) / 32 ⌝ }
+{
     let mut found: u32 = 0;
     let (sought, _) = sought.as_chunks::<32>();
     for nonce in sought {
@@ -135,16 +138,16 @@ pub extern "C" fn dilkortxi_chained_look_ups(
     sought: &[u8],
     rounds: u32,
 ) -> u32
+    ensures most { λ r. ⌜ r ≤ rounds * (length (now (sought .entry)) / 32) ⌝ }
+    ensures none { λ r. ⌜ (length (now (memory .entry)) < 168 → r ≡ 0) ⌝ }
     ensures stays { λ r. ⌜ (length (now (memory .entry)) < 168 → now (memory .exit) ≡ now (memory .entry)) ⌝ }
 {
-    chained::with_book(
-        memory,
-        LookUps {
-            marked,
-            sought,
-            rounds,
-        },
-    ).unwrap_or(0)
+    let work = LookUps {
+        marked,
+        sought,
+        rounds,
+    };
+    chained::with_book(memory, work).unwrap_or(0)
 }
 
 // The same in a tape.
@@ -155,14 +158,14 @@ pub extern "C" fn dilkortxi_tape_look_ups(
     sought: &[u8],
     rounds: u32,
 ) -> u32
+    ensures most { λ r. ⌜ r ≤ rounds * (length (now (sought .entry)) / 32) ⌝ }
+    ensures none { λ r. ⌜ (length (now (memory .entry)) < 36 → r ≡ 0) ⌝ }
     ensures stays { λ r. ⌜ (length (now (memory .entry)) < 36 → now (memory .exit) ≡ now (memory .entry)) ⌝ }
 {
-    tape::with_book(
-        memory,
-        LookUps {
-            marked,
-            sought,
-            rounds,
-        },
-    ).unwrap_or(0)
+    let work = LookUps {
+        marked,
+        sought,
+        rounds,
+    };
+    tape::with_book(memory, work).unwrap_or(0)
 }
