@@ -14,7 +14,7 @@ and-then {a} {b} {c} {at} {mid} {end} {p} {q} one two = record {
   rest =
       let further : mid + (end - mid) ≡ end = let f = two .ends in omega arith in
       let past : (l : List ℕ) → drop end l ≡ drop (end - mid) (drop mid l) =
-          λ l. ap (λ (n : ℕ). drop n l) (sym further) ∙ sym (drop-drop (end - mid) mid l) in
+      λ l. ap (λ (n : ℕ). drop n l) (sym further) ∙ sym (drop-drop (end - mid) mid l) in
       two .rest ∙ past b ∙ ap (drop (end - mid)) (one .rest) ∙ sym (past a);
 }
 
