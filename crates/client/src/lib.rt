@@ -23,7 +23,7 @@ use scratch::ENOUGH;
 use scratch::Scratch;
 use token::element;
 
-pub mod items;
+mod items;
 
 // A batch that was blinded and waits for its reply. It has no `Drop`: `finish` or `abandon` must end it.
 pub struct Pending {
