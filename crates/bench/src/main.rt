@@ -7,6 +7,8 @@
 //
 // At the first line that is no command it says on standard error which line and word are wrong, and ends
 // with status 1. Everything but the input and the output is in `script`, `desk` and `text`.
+#![tactic(auto)]
+
 use chained::ChainedBook;
 use desk::{Desk, Empty};
 use faults::{Fault, Refusal, WireFault};

@@ -9,6 +9,8 @@
 // At the first line that is no command it says on standard error which line and word are wrong, and ends
 // with status 1. A batch that is pending at the end is abandoned there. Everything but the input and the
 // output is in `script`, `desk`, `counter` and `text`.
+#![tactic(auto)]
+
 use chained::ChainedBook;
 use client_next::Pending;
 use counter::Counter;

@@ -3,7 +3,7 @@ use Rattle.std.proofs.Common.{◌≡◌, ℕ, Ok, Err, Result, sym, refl, ap, �
 use Rattle.faults.specs.declared.BookFault.{BookFault}
 use Rattle.faults.specs.declared.BookFault.TheVariants.{Spent, Full}
 use Rattle.book.specs.Meaning.{Pair, Meaning, In, size_of, Alike, Marked, Dropped}
-use Rattle.book.specs.Laws.{OnePlace}
+use Rattle.book.specs.Laws.{OnePlaceHolds}
 use Rattle.book.proofs.Facts.{alike_size, none_size, added_size}
 
 -- a book with one place, and nothing in it
@@ -43,7 +43,7 @@ dropped b b' p epoch r e h d =
     let n = d.1 in
     (omega (arith, none_size b' none), (none, d.0.room ∙ h.3))
 
-pub one_place : OnePlace
+pub one_place : OnePlaceHolds
 one_place start end a b none one differ rs run =
     let m1 = run.0 in
     let m2 = run.2.0 in

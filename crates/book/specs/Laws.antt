@@ -37,6 +37,6 @@ abbrev pub worked_calls : List ℕ → List ℕ → List Call
 worked_calls a b = mark (1, a) ∷ mark (1, a) ∷ mark (1, b) ∷ drop 1 ∷ mark (2, b) ∷ []
 
 -- The worked case: an empty book with one place accepts, says spent, says full, drops one pair, accepts.
-abbrev pub OnePlace : Type 0
-OnePlace = (start end : Meaning) (a b : List ℕ) → ((q : Pair) → In start q → ⊥) → start.capacity ≡ 1 → (a ≢ b)
+abbrev pub OnePlaceHolds : Type 0
+OnePlaceHolds = (start end : Meaning) (a b : List ℕ) → ((q : Pair) → In start q → ⊥) → start.capacity ≡ 1 → (a ≢ b)
     → (rs : Answers (worked_calls a b)) → Runs start (worked_calls a b) rs end → rs ≡ (Ok tt, (Err Spent, (Err Full, (1, (Ok tt, tt)))))

@@ -4,11 +4,13 @@
 // what a station knows of it: its calls, each with what it does to that meaning. A kind of book says
 // where the pairs lie, and shows that its calls do just this; what stands above uses the meaning alone,
 // so every kind serves every station. docs/BOOKS.md has the meaning in words, and how to add a kind.
+#![tactic(auto)]
+
 ghost use Rattle.std.specs.Prelude.{◌≡◌, ◌+◌, Ok, Err, Decides, ◌≢◌};
 ghost use Rattle.faults.specs.declared.BookFault.TheVariants.{Spent, Full};
 ghost use Rattle.book.specs.Meaning.{Meaning, In, size_of, Cleared, Marked, Dropped};
 ghost use Rattle.book.specs.Runs.{Runs};
-ghost use Rattle.book.specs.Laws.{ToldAlike, SizeCounts, MarkAnswers, MarkCounts, DropCounts, OnePlace, worked_calls};
+ghost use Rattle.book.specs.Laws.{ToldAlike, SizeCounts, MarkAnswers, MarkCounts, DropCounts, OnePlaceHolds, worked_calls};
 
 use faults::BookFault;
 
@@ -94,7 +96,7 @@ pub fn one_place<B: Book>(book: &mut B, a: &[u8; 32], b: &[u8; 32]) -> OnePlace
 
 // The same over the meaning: any book with one place gives these answers to this list of calls.
 pub fn one_place_is_worked()
-    ensures { OnePlace }
+    ensures { OnePlaceHolds }
 {}
 
 // No list of calls tells two books of one set and one capacity apart.

@@ -1,6 +1,8 @@
 // Examples of what the books do, as tests: the bytes of a small book, the worked case of a book with one place,
 // and the refusal of memory that holds no record. They stand in a crate of their own, so that a kind of book
 // is not proved a second time for its examples.
+#![tactic(auto)]
+
 ghost use Rattle.std.specs.Prelude.{◌≡◌};
 
 #[cfg(test)]

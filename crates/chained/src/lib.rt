@@ -9,6 +9,8 @@
 // zero but for next, and stand in a chain of their own. The capacity c is as many records as fit, at most
 // 1,024; the later bytes are never touched. The crate `chains` has the logic, over any layout of the
 // records; this one has their layout in bytes. A station is made over it as over any other book.
+#![tactic(auto)]
+
 mod bytes;
 mod chained_book;
 mod rows;

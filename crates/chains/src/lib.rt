@@ -6,6 +6,8 @@
 // Records are numbered from 1 and chained by `next`; zero ends a chain. `Records` is all that the logic
 // knows of memory; a layout of bytes implements it. `find`, `clear`, `mark` and `drop_epoch` are written
 // and proved once over it, so every layout takes and frees its records in the same order.
+#![tactic(auto)]
+
 ghost use Rattle.std.specs.Prelude.{◌≡◌, ℕ, ◌+◌, ◌-◌, ◌<◌, ◌≤◌, List, length, Decides};
 ghost use Rattle.chains.specs.Tables.{Entry, Table, at, head, pair_of, chain_of, with_head, with_size, with_entry, with_next, zeroed, cleared, bridged, freed, swept, dropped};
 ghost use Rattle.chains.specs.Calls.{Chained, Marks};

@@ -3,6 +3,8 @@
 // A kind of group: see `group`. An element is a pair of the crate `circle` whose 131-fold sum is null,
 // and its logarithm is the number of times that G = (82, 434) goes into it. The equation alone does not
 // make an element: the circle has 524 points, and decoding refuses the 393 that are not in the group.
+#![tactic(auto)]
+
 ghost use Rattle.std.specs.Prelude.{◌≡◌};
 ghost use Rattle.circ523.specs.Elements.{order};
 ghost use Rattle.circ523.specs.Kind.{points};

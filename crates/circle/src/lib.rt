@@ -5,6 +5,8 @@
 // pairs, on which the kind of group in `circ523` stands, and in proofs/ the mathematics: the sum is
 // associative and keeps to the circle, four times each point of the circle is a multiple of G, and so
 // each member is one of the 131 multiples of G, which are its logarithms.
+#![tactic(auto)]
+
 ghost use Rattle.std.specs.Prelude.{◌≡◌, ◌+◌, ◌*◌, ◌%◌, ◌<◌, Decides};
 ghost use Rattle.scalar.specs.Inverse.{inverse_number};
 ghost use Rattle.circle.specs.Circle.{plus, times, opposite, OnCircle, Member, slope_point, mapped_pair};

@@ -3,6 +3,8 @@
 //   seeds, blinds --blind--> request .. reply --finish--> tokens
 //
 // `blind` gives a pending batch, which `finish` or `abandon` must end: it can be neither copied nor let go.
+#![tactic(auto)]
+
 ghost use Rattle.std.specs.Prelude.{◌≡◌, ℕ, ◌/◌, length, replicate, IfOk};
 ghost use Rattle.client.specs.Batches.{outlet_after};
 ghost use Rattle.client.specs.Blinding.{vetted, Vetted as Sound, blind_answer, begun};

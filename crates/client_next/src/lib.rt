@@ -4,6 +4,8 @@
 //
 // `blind` gives a pending batch, which `finish` or `abandon` must end: it can be neither copied nor let go. A
 // finish that is refused hands the batch back, still pending.
+#![tactic(auto)]
+
 ghost use Rattle.client_next.specs.Honest.{HonestReplies};
 
 pub use blinding::blind;

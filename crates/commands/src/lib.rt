@@ -3,6 +3,8 @@
 //   script --Kind, bytes--> commands --G--> group, token
 //
 // Each call is written once for every kind of group; `Kind` is the choice that a line `group NAME` makes.
+#![tactic(auto)]
+
 ghost use Rattle.std.specs.Prelude.{◌≡◌};
 ghost use Rattle.commands.specs.Calls.{decoded, mapped, based, coded, kind_of, decode_in, map_in, base_in, input_in, direct_in};
 

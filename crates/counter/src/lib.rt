@@ -4,6 +4,8 @@
 //   script --Action--> counter --orders--> client      (one batch pending at a time)
 //                         |
 //                         +-----ledger--> history::run (a station, over a book of the script's choice)
+#![tactic(auto)]
+
 ghost use Rattle.std.specs.Prelude.{◌≡◌, None};
 ghost use Rattle.script_next.specs.Protocol.{acted_of};
 ghost use Rattle.script_next.specs.Reports.{outcome_of};

@@ -3,6 +3,8 @@
 //   script --Call--> desk --B--> book (tape, chained)
 //
 // The program makes a book over memory that it owns and hands it to `Desk`; without one, `Empty` is on the desk.
+#![tactic(auto)]
+
 ghost use Rattle.std.specs.Prelude.{◌≡◌, ℕ, List, Decides};
 ghost use Rattle.book.specs.Meaning.{In, Cleared, Dropped, size_of};
 ghost use Rattle.desk.specs.Calls.{Marks, Tells};

@@ -5,6 +5,8 @@
 // Everything above that hashes calls `digest`: key ids, hashing to scalars and to elements, authenticators.
 // It takes no memory but its stack and copies of the input no more than the bytes after its last whole
 // block. The hash value passes from block to block, and `compress` takes one block into it.
+#![tactic(auto)]
+
 ghost use Rattle.std.specs.Prelude.{◌≡◌, ℕ, ◌+◌, ◌-◌, ◌*◌, ◌/◌, ◌%◌, ◌^◌, ◌<◌, ◌≤◌, ◌∷◌, ◌++◌, length, take, replicate};
 ghost use Rattle.std.specs.List.{flat_map};
 ghost use Rattle.digest.specs.Words.{word_bytes};

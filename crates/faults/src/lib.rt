@@ -11,6 +11,8 @@
 // Each layer has an enum of its own. A layer above keeps a fault from below whole inside its own enum,
 // so nothing is lost on the way up: the group's inside the batch's, which adds the item, and the batch's
 // and the book's inside the station's. `docs/FAULTS.md` has the whole list, with when each is told.
+#![tactic(auto)]
+
 ghost use Rattle.std.specs.Prelude.{◌≡◌};
 ghost use Rattle.faults.specs.declared.Refusal.{Refusal};
 ghost use Rattle.faults.specs.declared.BatchFault.TheVariants.{Wire as BatchWire, Ring as BatchRing, Group as BatchGroup};

@@ -7,6 +7,8 @@
 //   kind of group (res2039, circ523, ..)  implements  Group
 //   multiple, weighted_sum                are written here, once for every kind
 //   blinding, proofs, client, station     use these alone
+#![tactic(auto)]
+
 ghost use Rattle.std.specs.Prelude.{◌≡◌, ℕ, ◌+◌, ◌*◌, ◌%◌, ◌<◌, List, Decides};
 ghost use Rattle.std.specs.Option.{ok_or};
 ghost use Rattle.faults.specs.declared.GroupFault.{GroupFault};

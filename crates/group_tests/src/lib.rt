@@ -2,6 +2,8 @@
 //
 // What the calls answer is proved in the crates of the kinds; these show that the compiled code does it.
 // They stand in a crate of their own, since a crate with tests is proved a second time for them.
+#![tactic(auto)]
+
 #[cfg(test)]
 mod tests {
     use circ523::Point;

@@ -5,6 +5,8 @@
 // The bytes to be hashed are put together in a buffer that the caller lends, from its front on. Each `put`
 // answers where it ended. Client and station lend the same scratch again and again, and zero it when they
 // are done.
+#![tactic(auto)]
+
 ghost use Rattle.std.specs.Prelude.{◌≡◌, ℕ, ◌+◌, ◌-◌, ◌*◌, ◌/◌, ◌%◌, ◌^◌, ◌<◌, ◌≤◌, ◌++◌, length, take, codes};
 ghost use Rattle.digest.specs.Sha256.{sha256};
 ghost use Rattle.hashing.specs.Appending.{Appended};

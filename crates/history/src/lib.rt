@@ -6,6 +6,8 @@
 // told. Its contract holds the law over the history of these calls and outcomes: which shop sent an item cannot be told
 // from its tokens; a token is accepted once, exactly where it must be; and a shop that keeps to the steps gets good
 // tokens. `docs/LAW.md` has the law in plain words, `specs/Law.antt` as it is proved.
+#![tactic(auto)]
+
 ghost use Rattle.std.specs.Prelude.{◌≡◌, ℕ, min, List, ◌∷◌, reverse, length, drop};
 ghost use Rattle.ring.specs.Places.{places};
 ghost use Rattle.history.specs.Events.{Event, event, events, told};

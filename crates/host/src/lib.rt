@@ -3,6 +3,8 @@
 //
 // Each function takes a run of bytes (in C a pointer and a length) and tells whether it is the code of an
 // element of its group: 0, or the number of the fault, 2 for a wrong length and 6 for bytes that are no code.
+#![tactic(auto)]
+
 ghost use Rattle.std.specs.Prelude.{◌≡◌};
 ghost use Rattle.circ523.specs.Kind.{points};
 ghost use Rattle.res2039.specs.Kind.{residues};

@@ -7,6 +7,8 @@
 //
 // A message is read once, at the edge: what a reader answers are the fields, and nobody above counts bytes.
 // Codes stay bytes here; whoever computes with an item decodes it. `docs/MESSAGES.md` has every byte.
+#![tactic(auto)]
+
 ghost use Rattle.std.specs.Prelude.{◌≡◌, ℕ, ◌+◌, ◌*◌, ◌≤◌, List, length, take, IfOk};
 ghost use Rattle.messages.specs.Answers.{Put, laid};
 ghost use Rattle.messages.specs.Messages.{header_of, front_of, read_request as request-read, read_reply as reply_read, split_reply as reply-split, request_length, reply_length, item_at, head_bytes, request_bytes, reply_bytes, token_input_of, token_bytes, read_token as token-read, writes_request, writes_reply, writes_token};

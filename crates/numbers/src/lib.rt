@@ -3,6 +3,8 @@
 // Two things that scalars and elements share: the code, at most 8 bytes with the high byte first, and
 // the word, the number in the first 8 of 32 bytes, that maps and reductions begin with. The lemmas on
 // remainders, powers and primes that every kind of group needs stand in `proofs/`.
+#![tactic(auto)]
+
 ghost use Rattle.std.specs.Prelude.{◌≡◌, ℕ, ◌+◌, ◌*◌, ◌/◌, ◌%◌, ◌≤◌, List, [], ◌∷◌, length};
 ghost use Rattle.numbers.specs.Bytes.{word, code_bytes};
 

@@ -3,6 +3,8 @@
 // A kind of group: see `group`. The sum of two elements is their product modulo 2039, the null is 1 and
 // the generator is 4. A base multiple is read from a table of the powers of 4; that each entry is four
 // times the one before is one computed test over the table.
+#![tactic(auto)]
+
 ghost use Rattle.std.specs.Prelude.{◌≡◌, ℕ, ◌+◌, ◌-◌, ◌*◌, ◌/◌, ◌%◌, ◌^◌, ◌<◌, ◌≤◌, List, [], ◌∷◌};
 ghost use Rattle.res2039.specs.Kind.{residues};
 ghost use Rattle.res2039.specs.Laws.{order};

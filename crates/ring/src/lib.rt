@@ -4,6 +4,8 @@
 //
 // Epochs only rise: one that was opened is never opened a second time, so a key is an epoch's for good. The
 // type of keys is the group's type of scalars that are not zero, so nobody who reads the ring tests a key.
+#![tactic(auto)]
+
 ghost use Rattle.std.specs.Prelude.{◌≡◌, [], ◌∷◌, None, Ok, Err};
 ghost use Rattle.std.specs.Option.{ok_or};
 ghost use Rattle.faults.specs.declared.RingFault.TheVariants.{NotOpen};

@@ -4,6 +4,8 @@
 // is not 0 (a key, a blind, a proof nonce), and `Order<Q>` the reckoning: whoever holds a value of it has
 // shown that Q is a prime of at least 3. What a kind of group must know of its scalars is the record
 // `Scalars` in specs/, and `modulo` there shows that these are such.
+#![tactic(auto)]
+
 ghost use Rattle.std.specs.Prelude.{◌≡◌, ℕ, ◌+◌, ◌-◌, ◌*◌, ◌/◌, ◌%◌, ◌^◌, ◌<◌, ◌≤◌, Decides};
 ghost use Rattle.std.specs.Option.{ok_or};
 ghost use Rattle.faults.specs.declared.GroupFault.{GroupFault};

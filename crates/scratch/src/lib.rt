@@ -3,6 +3,8 @@
 // What passes through it may be secret, so a guard holds it: whichever way the call ends, by its answer or by
 // any refusal, the guard is dropped there and all of the bytes read zero. A call makes the guard first and
 // tests the length next, so that a scratch which is too short reads zero as well.
+#![tactic(auto)]
+
 ghost use Rattle.std.specs.Prelude.{◌≡◌, length, replicate};
 
 // How many bytes a call asks for.

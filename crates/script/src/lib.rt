@@ -6,6 +6,8 @@
 //
 // The bench program hands every line of its input to a `Session` and prints the report that it answers. A
 // command is a word of `Command`, a `Task` with its words read, and an arm in `session` that does it.
+#![tactic(auto)]
+
 pub mod answers;
 pub mod arguments;
 pub mod commands;

@@ -1,5 +1,7 @@
 // Examples of lines of a script and what they do, as tests. They stand in a crate of their own, so that the
 // program is not proved a second time for them.
+#![tactic(auto)]
+
 ghost use Rattle.std.specs.Prelude.{◌≡◌};
 
 #[cfg(test)]

@@ -1,5 +1,7 @@
 // What the benchmarks link: calls of the part behind C signatures, so that a harness in C can time them beside
 // other implementations and compare the answers. A slice passes as a pointer and a length.
+#![tactic(auto)]
+
 ghost use Rattle.std.specs.Prelude.{◌≡◌, ◌*◌, ◌/◌, ◌<◌, ◌≤◌, length, drop};
 ghost use Rattle.circ523.specs.Kind.{points};
 ghost use Rattle.res2039.specs.Kind.{residues};

@@ -4,6 +4,8 @@
 //   open epoch --> ring      request --issue--> reply      token --redeem--> book      close epoch --> book, ring
 //
 // It is made over a group and a book, by their interfaces alone. `docs/STATION.md` has each call in words.
+#![tactic(auto)]
+
 ghost use Rattle.std.specs.Prelude.{◌≡◌, ℕ, [], ◌∷◌, length, replicate, None};
 ghost use Rattle.ring.specs.Places.{places, key_in, admits};
 ghost use Rattle.book.specs.Meaning.{Cleared, size_of};

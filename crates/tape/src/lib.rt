@@ -7,6 +7,7 @@
 // The records stand in the order of marking, and drop closes the gaps, so the tape is the plainest of the
 // books, and its look-ups the slowest: each goes along the records. The capacity c is as many records as
 // fit, at most 1,024; the later bytes are never touched. A station is made over it as over any other book.
+#![tactic(auto)]
 
 mod bytes;
 mod tape_book;

@@ -9,6 +9,8 @@
 //
 // Each byte string and each number has one written form, and a reader accepts that form alone. What is
 // read otherwise is refused with its place.
+#![tactic(auto)]
+
 pub mod class;
 pub mod decimal;
 pub mod hex;

@@ -2,6 +2,8 @@
 //
 // Client and station work on whole batches; a tester who has a key and an input asks here what the token of it
 // must be. The definition of a good token, `Good` in specs/, is the one that everything above uses.
+#![tactic(auto)]
+
 ghost use Rattle.std.specs.Prelude.{◌≡◌, ◌≤◌, length, replicate};
 ghost use Rattle.token.specs.Tokens.{is_null as null-test, element_of, key_of, input_answer, direct_answer};
 

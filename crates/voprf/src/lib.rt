@@ -7,5 +7,7 @@
 //
 // H maps an input to an element. The proof is about M and W, the weighted sums of all that was sent and of
 // all that was answered; prover and checker reckon them by the same `composites`.
+#![tactic(auto)]
+
 pub mod blinding;
 pub mod proving;

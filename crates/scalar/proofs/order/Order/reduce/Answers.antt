@@ -5,4 +5,4 @@ use Rattle.scalar.proofs.order.Order.reduce.Goals as goal
 
 pub returns : goal.returns
 unfolding reduced
-returns g c = by_value c.args.self _ _ (ap (λ (x : ℕ). x % g.row.Q) c.leading-word.ensures)
+returns g c = by_value c.args.self _ _ (ap (λ (x : ℕ). x % g.row.Q) c.leading_word.ensures)
