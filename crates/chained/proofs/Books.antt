@@ -40,10 +40,6 @@ module _ (cap cap' : ℕ) (m m' : List ℕ) (t : Table) (room : RoomIn (length m
       ∙ ap (λ u. image u (later m' cap)) after_table
       ∙ ap (image t) (ap (later m') (sym after_capacity) ∙ l)
 
--- the facts of a book, from a sound table
-pub sound_facts : (t : Table) → Sound t → ShapedTable t × (Ended t × (Within t × (Placed t × (Unfree t × (Epochless t × (Nonceless t × (Counted t × (Apart (pairs t) × Unit {0}))))))))
-sound_facts t s = (s.0, (s.1, (s.2, (s.3, (s.4, (s.5.0, (s.5.1, (s.6, (s.7, tt)))))))))
-
 pub cleared_long : (n : ℕ) → length (cleared n).entries ≡ n
 unfolding cleared
 cleared_long n = length-map-range_with_len _ 1 n

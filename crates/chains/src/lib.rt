@@ -84,7 +84,7 @@ pub fn chain_of(nonce: &[u8; 32]) -> u8
 
 // Whether a pair is in its chain. A walk takes no more steps than there are records.
 pub fn find<R: Records>(records: &R, epoch: u16, nonce: &[u8; 32]) -> bool
-    ensures { Decides result (Chained (table records.now) (epoch, nonce.now)) }
+    ensures { Decides result (Chained (R.table records.now) (epoch, nonce.now)) }
 {
     let mut number = records.head(chain_of(nonce));
     let mut steps = records.places();
@@ -101,7 +101,7 @@ pub fn find<R: Records>(records: &R, epoch: u16, nonce: &[u8; 32]) -> bool
 // Empties every chain, and chains the free records 1, 2, … in order.
 pub fn clear<R: RecordsMut>(records: &mut R)
     ensures table { R.Records.table records.new ≡ cleared (length (R.Records.table records.old).entries) }
-    ensures beside { beside records.new ≡ beside records.old }
+    ensures beside { R.beside records.new ≡ R.beside records.old }
 {
     records.wipe();
     for number in 1..records.places() {
@@ -113,7 +113,7 @@ pub fn clear<R: RecordsMut>(records: &mut R)
 // Adds a pair: the first free record takes it and goes to the front of its chain.
 pub fn mark<R: RecordsMut>(records: &mut R, epoch: u16, nonce: &[u8; 32]) -> Result<(), BookFault>
     ensures table { Marks (R.Records.table records.old) (epoch, nonce.now) result (R.Records.table records.new) }
-    ensures beside { beside records.new ≡ beside records.old }
+    ensures beside { R.beside records.new ≡ R.beside records.old }
 {
     if find(records, epoch, nonce) {
         return Err(BookFault::Spent);
@@ -136,7 +136,7 @@ pub fn mark<R: RecordsMut>(records: &mut R, epoch: u16, nonce: &[u8; 32]) -> Res
 // Leads a chain past a record: from the one before it, or from the head where there is none.
 fn bridge<R: RecordsMut>(records: &mut R, chain: u8, before: u16, rest: u16)
     ensures table { R.Records.table records.new ≡ bridged (R.Records.table records.old) chain before rest }
-    ensures beside { beside records.new ≡ beside records.old }
+    ensures beside { R.beside records.new ≡ R.beside records.old }
 {
     if before == 0 {
         records.put_head(chain, rest);
@@ -148,7 +148,7 @@ fn bridge<R: RecordsMut>(records: &mut R, chain: u8, before: u16, rest: u16)
 // Zeroes a record and puts it at the front of the free chain.
 fn free<R: RecordsMut>(records: &mut R, number: u16)
     ensures table { R.Records.table records.new ≡ freed (R.Records.table records.old) number }
-    ensures beside { beside records.new ≡ beside records.old }
+    ensures beside { R.beside records.new ≡ R.beside records.old }
 {
     let first = records.head(CHAINS);
     let size = records.count();
@@ -160,7 +160,7 @@ fn free<R: RecordsMut>(records: &mut R, number: u16)
 // Frees the records of an epoch in one chain, from its front.
 fn sweep<R: RecordsMut>(records: &mut R, epoch: u16, chain: u8)
     ensures table { R.Records.table records.new ≡ swept epoch chain (length (R.Records.table records.old).entries) 0 (head (R.Records.table records.old) chain) (R.Records.table records.old) }
-    ensures beside { beside records.new ≡ beside records.old }
+    ensures beside { R.beside records.new ≡ R.beside records.old }
 {
     let mut before = 0;
     let mut number = records.head(chain);
@@ -181,7 +181,7 @@ fn sweep<R: RecordsMut>(records: &mut R, epoch: u16, chain: u8)
 // Frees the records of an epoch in the chains 0 to 63, and answers how many they were.
 pub fn drop_epoch<R: RecordsMut>(records: &mut R, epoch: u16) -> u16
     ensures table { R.Records.table records.new ≡ dropped epoch (R.Records.table records.old) }
-    ensures beside { beside records.new ≡ beside records.old }
+    ensures beside { R.beside records.new ≡ R.beside records.old }
     ensures count { result ≡ (R.Records.table records.old).size - (R.Records.table records.new).size }
 {
     let size = records.count();

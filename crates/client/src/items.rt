@@ -13,7 +13,7 @@ use voprf::blinding::blind;
 // The input of an item's token, of its seed.
 pub fn input<G: Group>(epoch: u16, pk: G, seed: &[u8]) -> [u8; 100]
     requires { length seed.now ≡ 64 }
-    ensures { result ≡ input_of model epoch pk seed.now }
+    ensures { result ≡ input_of G.model epoch pk seed.now }
 {
     match token_input(G::kind(), epoch, &seed[0..32], &seed[32..64], &key_id(pk)) {
         Ok(input) => input,
@@ -28,7 +28,7 @@ pub fn open<G: Group>(
     blind: &[u8],
 ) -> Result<G::NonZero, GroupFault>
     requires { 1024 ≤ length bytes.old }
-    ensures { result ≡ opened model input.now blind.now }
+    ensures { result ≡ opened G.model input.now blind.now }
 {
     let r = nonzero::<G>(blind)?;
     if is_null(hash_to_group::<G>(bytes, input)) {
@@ -64,9 +64,9 @@ pub fn blind_items<G: Group>(
     requires room { 1024 ≤ length bytes.old }
     requires few { count ≤ 16 }
     requires seeds { length seeds.now ≡ 64 * count }
-    requires blinds { length blinds.now ≡ count * model.scalars.width }
-    ensures codes { MatchResult result (λ end. blind_codes model epoch pk 0 count seeds.now blinds.now [] ≡ Ok (take end codes.new)) (λ f. blind_codes model epoch pk 0 count seeds.now blinds.now [] ≡ Err f) }
-    ensures end { IfOk result (λ end. end ≡ count * model.element_width) }
+    requires blinds { length blinds.now ≡ count * G.model.scalars.width }
+    ensures codes { MatchResult result (λ end. blind_codes G.model epoch pk 0 count seeds.now blinds.now [] ≡ Ok (take end codes.new)) (λ f. blind_codes G.model epoch pk 0 count seeds.now blinds.now [] ≡ Err f) }
+    ensures end { IfOk result (λ end. end ≡ count * G.model.element_width) }
 {
     let width = G::scalar_width();
     let mut at = 0;

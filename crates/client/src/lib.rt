@@ -43,8 +43,8 @@ fn vet<G: Group>(
     blinds: &[u8],
     outlet: usize,
 ) -> Result<(G, u8), BatchFault>
-    ensures answer { result ≡ vetted model scratch epoch pk.now seeds.now blinds.now outlet }
-    ensures known { IfOk result (λ p. Sound model scratch seeds.now blinds.now outlet p.1) }
+    ensures answer { result ≡ vetted G.model scratch epoch pk.now seeds.now blinds.now outlet }
+    ensures known { IfOk result (λ p. Sound G.model scratch seeds.now blinds.now outlet p.1) }
 {
     if scratch < ENOUGH {
         return Err(BatchFault::Wire(WireFault::ShortScratch));
@@ -84,8 +84,8 @@ pub fn blind<G: Group>(
     blinds: &[u8],
     outlet: &mut [u8],
 ) -> Result<Pending, BatchFault>
-    ensures answer { result ≡ begun epoch (length seeds.now / 64) (blind_answer model (length scratch.old) epoch pk.now seeds.now blinds.now (length outlet.old)) }
-    ensures outlet { outlet.new ≡ outlet_after (blind_answer model (length scratch.old) epoch pk.now seeds.now blinds.now (length outlet.old)) outlet.old }
+    ensures answer { result ≡ begun epoch (length seeds.now / 64) (blind_answer G.model (length scratch.old) epoch pk.now seeds.now blinds.now (length outlet.old)) }
+    ensures outlet { outlet.new ≡ outlet_after (blind_answer G.model (length scratch.old) epoch pk.now seeds.now blinds.now (length outlet.old)) outlet.old }
     ensures scratch { scratch.new ≡ replicate (length scratch.old) 0 }
 {
     let work = Scratch { bytes: scratch };

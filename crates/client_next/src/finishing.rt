@@ -26,7 +26,7 @@ pub struct Unfinished {
 
 // Reads a reply to a batch of this epoch and of so many items.
 fn read<G: Group>(epoch: u16, count: u8, reply: &[u8]) -> Result<Reply<'_>, BatchFault>
-    ensures { answers_seen result ≡ reply_parts model epoch count reply.now }
+    ensures { answers_seen result ≡ reply_parts G.model epoch count reply.now }
 {
     let (front, rest) = take_header(reply)?;
     let (items, challenge, response) = split_reply::<G>(count, rest)?;
@@ -58,8 +58,8 @@ fn vet<'a, G: Group>(
     reply: &'a [u8],
     outlet: usize,
 ) -> Result<(G, Reply<'a>), BatchFault>
-    ensures answer { known_seen result ≡ finish_vetted model scratch pending.now.epoch pending.now.count pk.now seeds.now blinds.now reply.now outlet }
-    ensures known { IfOk result (λ p. Finishable model scratch pending.now.epoch pending.now.count seeds.now blinds.now (answers p.1) outlet) }
+    ensures answer { known_seen result ≡ finish_vetted G.model scratch pending.now.epoch pending.now.count pk.now seeds.now blinds.now reply.now outlet }
+    ensures known { IfOk result (λ p. Finishable G.model scratch pending.now.epoch pending.now.count seeds.now blinds.now (answers p.1) outlet) }
 {
     let count = pending.count as usize;
     if scratch < ENOUGH {
@@ -94,9 +94,9 @@ fn confirm<G: Group>(
     requires room { 1024 ≤ length bytes.old }
     requires few { reply.count ≤ 16 }
     requires seeds { length seeds.now ≡ 64 * reply.count }
-    requires blinds { length blinds.now ≡ reply.count * model.scalars.width }
-    requires items { length reply.items.now ≡ reply.count * model.element_width }
-    ensures { result ≡ confirmed model pk id.now seeds.now blinds.now (answers reply.entry) }
+    requires blinds { length blinds.now ≡ reply.count * G.model.scalars.width }
+    requires items { length reply.items.now ≡ reply.count * G.model.element_width }
+    ensures { result ≡ confirmed G.model pk id.now seeds.now blinds.now (answers reply.entry) }
 {
     let mut sent = [0; 128];
     let end = walk::<G>(bytes, Pass::Check, id, seeds, blinds, reply, &mut sent)?;
@@ -115,8 +115,8 @@ fn settle<G: Group>(
     reply: &[u8],
     outlet: &mut [u8],
 ) -> Result<(), BatchFault>
-    ensures answer { result ≡ settled (finish_answer model (length scratch.old) pending.now.epoch pending.now.count pk.now seeds.now blinds.now reply.now (length outlet.old)) }
-    ensures outlet { outlet.new ≡ outlet_after (finish_answer model (length scratch.old) pending.now.epoch pending.now.count pk.now seeds.now blinds.now reply.now (length outlet.old)) outlet.old }
+    ensures answer { result ≡ settled (finish_answer G.model (length scratch.old) pending.now.epoch pending.now.count pk.now seeds.now blinds.now reply.now (length outlet.old)) }
+    ensures outlet { outlet.new ≡ outlet_after (finish_answer G.model (length scratch.old) pending.now.epoch pending.now.count pk.now seeds.now blinds.now reply.now (length outlet.old)) outlet.old }
     ensures scratch { scratch.new ≡ replicate (length scratch.old) 0 }
 {
     let room = scratch.len();
@@ -138,8 +138,8 @@ pub fn finish<G: Group>(
     reply: &[u8],
     outlet: &mut [u8],
 ) -> Result<u8, Unfinished>
-    ensures answer { result ≡ finished pending (finish_answer model (length scratch.old) pending.epoch pending.count pk.now seeds.now blinds.now reply.now (length outlet.old)) }
-    ensures outlet { outlet.new ≡ outlet_after (finish_answer model (length scratch.old) pending.epoch pending.count pk.now seeds.now blinds.now reply.now (length outlet.old)) outlet.old }
+    ensures answer { result ≡ finished pending (finish_answer G.model (length scratch.old) pending.epoch pending.count pk.now seeds.now blinds.now reply.now (length outlet.old)) }
+    ensures outlet { outlet.new ≡ outlet_after (finish_answer G.model (length scratch.old) pending.epoch pending.count pk.now seeds.now blinds.now reply.now (length outlet.old)) outlet.old }
     ensures scratch { scratch.new ≡ replicate (length scratch.old) 0 }
 {
     match settle::<G>(scratch, &pending, pk, seeds, blinds, reply, outlet) {

@@ -12,7 +12,7 @@ use voprf::blinding::evaluate;
 // The input of an item's token, of its seed.
 pub fn input<G: Group>(epoch: u16, id: &[u8; 32], seed: &[u8]) -> [u8; 100]
     requires { length seed.now ≡ 64 }
-    ensures { result ≡ input_under model epoch id.now seed.now }
+    ensures { result ≡ input_under G.model epoch id.now seed.now }
 {
     match token_input(G::kind(), epoch, &seed[0..32], &seed[32..64], id) {
         Ok(input) => input,
@@ -23,7 +23,7 @@ pub fn input<G: Group>(epoch: u16, id: &[u8; 32], seed: &[u8]) -> [u8; 100]
 // What is sent for an item, where its input does not map to the null. The input is hashed to the group once.
 pub fn send<G: Group>(bytes: &mut [u8], input: &[u8; 100], blind: &[u8]) -> Result<G, GroupFault>
     requires { 1024 ≤ length bytes.old }
-    ensures { result ≡ sent-for model input.now blind.now }
+    ensures { result ≡ sent-for G.model input.now blind.now }
 {
     let r = nonzero::<G>(blind)?;
     let mapped = hash_to_group::<G>(bytes, input);
@@ -60,9 +60,9 @@ pub fn blind_items<G: Group>(
     requires room { 1024 ≤ length bytes.old }
     requires few { count ≤ 16 }
     requires seeds { length seeds.now ≡ 64 * count }
-    requires blinds { length blinds.now ≡ count * model.scalars.width }
-    ensures codes { MatchResult result (λ end. walked model (sent_code model) epoch id.now 0 count seeds.now blinds.now [] [] ≡ Ok (take end codes.new)) (λ f. walked model (sent_code model) epoch id.now 0 count seeds.now blinds.now [] [] ≡ Err f) }
-    ensures end { IfOk result (λ end. end ≡ count * model.element_width) }
+    requires blinds { length blinds.now ≡ count * G.model.scalars.width }
+    ensures codes { MatchResult result (λ end. walked G.model (sent_code G.model) epoch id.now 0 count seeds.now blinds.now [] [] ≡ Ok (take end codes.new)) (λ f. walked G.model (sent_code G.model) epoch id.now 0 count seeds.now blinds.now [] [] ≡ Err f) }
+    ensures end { IfOk result (λ end. end ≡ count * G.model.element_width) }
 {
     let width = G::scalar_width();
     let mut at = 0;

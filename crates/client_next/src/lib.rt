@@ -21,5 +21,5 @@ mod pending;
 
 // Whatever a station answers that keeps to the steps, `finish` accepts, and its tokens are good.
 pub fn honest_replies_are_accepted<G: Group>()
-    ensures { HonestReplies model }
+    ensures { HonestReplies G.model }
 {}

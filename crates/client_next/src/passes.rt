@@ -26,7 +26,7 @@ fn resend<G: Group>(
     got: &[u8],
 ) -> Result<G, GroupFault>
     requires { 1024 ≤ length bytes.old }
-    ensures { result ≡ sent_again model input.now blind.now got.now }
+    ensures { result ≡ sent_again G.model input.now blind.now got.now }
 {
     let sent = send::<G>(bytes, input, blind)?;
     element::<G>(got)?;
@@ -41,7 +41,7 @@ fn finalize<G: Group>(
     got: &[u8],
 ) -> Result<[u8; 32], GroupFault>
     requires { 1024 ≤ length bytes.old }
-    ensures { result ≡ finalized model input.now blind.now got.now }
+    ensures { result ≡ finalized G.model input.now blind.now got.now }
 {
     let r = nonzero::<G>(blind)?;
     let e = element::<G>(got)?;
@@ -59,8 +59,8 @@ fn put_item<G: Group>(
     at: usize,
 ) -> Result<usize, GroupFault>
     requires room { 1024 ≤ length bytes.old }
-    requires fits { at + width_of model pass ≤ length out.old }
-    ensures { MatchResult result (λ end. Laid model pass input.now blind.now got.now out.old out.new at end) (λ f. made_by model pass input.now blind.now got.now ≡ Err f) }
+    requires fits { at + width_of G.model pass ≤ length out.old }
+    ensures { MatchResult result (λ end. Laid G.model pass input.now blind.now got.now out.old out.new at end) (λ f. made_by G.model pass input.now blind.now got.now ≡ Err f) }
 {
     match pass {
         Pass::Check => {
@@ -88,11 +88,11 @@ pub fn walk<G: Group>(
     requires room { 1024 ≤ length bytes.old }
     requires few { reply.count ≤ 16 }
     requires seeds { length seeds.now ≡ 64 * reply.count }
-    requires blinds { length blinds.now ≡ reply.count * model.scalars.width }
-    requires items { length reply.items.now ≡ reply.count * model.element_width }
-    requires fits { reply.count * width_of model pass ≤ length out.old }
-    ensures made { MatchResult result (λ end. walked model (made_by model pass) reply.entry.epoch id.now 0 reply.entry.count seeds.now blinds.now reply.entry.items.now [] ≡ Ok (take end out.new)) (λ f. walked model (made_by model pass) reply.entry.epoch id.now 0 reply.entry.count seeds.now blinds.now reply.entry.items.now [] ≡ Err f) }
-    ensures end { IfOk result (λ end. end ≡ reply.entry.count * width_of model pass) }
+    requires blinds { length blinds.now ≡ reply.count * G.model.scalars.width }
+    requires items { length reply.items.now ≡ reply.count * G.model.element_width }
+    requires fits { reply.count * width_of G.model pass ≤ length out.old }
+    ensures made { MatchResult result (λ end. walked G.model (made_by G.model pass) reply.entry.epoch id.now 0 reply.entry.count seeds.now blinds.now reply.entry.items.now [] ≡ Ok (take end out.new)) (λ f. walked G.model (made_by G.model pass) reply.entry.epoch id.now 0 reply.entry.count seeds.now blinds.now reply.entry.items.now [] ≡ Err f) }
+    ensures end { IfOk result (λ end. end ≡ reply.entry.count * width_of G.model pass) }
     ensures rest { IfOk result (λ end. drop end out.new ≡ drop end out.old) }
 {
     let scalar = G::scalar_width();

@@ -17,7 +17,7 @@ use scratch::ENOUGH;
 
 // Whether bytes are the code of an element.
 pub fn decode<G: Group>(code: &[u8]) -> Result<(), BatchFault>
-    ensures { result ≡ decoded model code.now }
+    ensures { result ≡ decoded G.model code.now }
 {
     if code.len() != G::element_width() {
         return Err(BatchFault::Wire(WireFault::WrongLength));
@@ -28,7 +28,7 @@ pub fn decode<G: Group>(code: &[u8]) -> Result<(), BatchFault>
 
 // The code of the element that 32 bytes map to.
 pub fn map<G: Group>(bytes: &[u8]) -> Result<Code, BatchFault>
-    ensures { coded result ≡ mapped model bytes.now }
+    ensures { coded result ≡ mapped G.model bytes.now }
 {
     let Ok(bytes) = <&[u8; 32]>::try_from(bytes) else {
         return Err(BatchFault::Wire(WireFault::WrongLength));
@@ -38,7 +38,7 @@ pub fn map<G: Group>(bytes: &[u8]) -> Result<Code, BatchFault>
 
 // The code of a scalar's base multiple.
 pub fn base<G: Group>(scalar: &[u8]) -> Result<Code, BatchFault>
-    ensures { coded result ≡ based model scalar.now }
+    ensures { coded result ≡ based G.model scalar.now }
 {
     if scalar.len() != G::scalar_width() {
         return Err(BatchFault::Wire(WireFault::WrongLength));

@@ -45,8 +45,8 @@ fn begin<G: Group>(
     blinds: &[u8],
     outlet: &mut [u8],
 ) -> Result<(Pending, usize), BatchFault>
-    ensures answer { Begins (blind_answer model (length scratch.old) epoch pk.now seeds.now blinds.now (length outlet.old)) epoch (length seeds.now / 64) result }
-    ensures outlet { outlet.new ≡ outlet_after (blind_answer model (length scratch.old) epoch pk.now seeds.now blinds.now (length outlet.old)) outlet.old }
+    ensures answer { Begins (blind_answer G.model (length scratch.old) epoch pk.now seeds.now blinds.now (length outlet.old)) epoch (length seeds.now / 64) result }
+    ensures outlet { outlet.new ≡ outlet_after (blind_answer G.model (length scratch.old) epoch pk.now seeds.now blinds.now (length outlet.old)) outlet.old }
 {
     match client_next::blind::<G>(scratch, epoch, pk, seeds, blinds, outlet) {
         Ok(batch) => Ok((batch, request_len::<G>((seeds.len() / 64) as u8))),

@@ -114,7 +114,7 @@ pub trait Group: Copy {
 
 // s times p, by doubling, from the highest bit of s down.
 pub fn multiple<G: Group>(s: G::Scalar, p: G) -> G
-    ensures { result ≡ multiple model s p }
+    ensures { result ≡ multiple G.model s p }
 {
     let mut r = G::null();
     let mut place = 8 * G::scalar_width();
@@ -139,7 +139,7 @@ pub enum SumFault {
 
 // The sum of the elements whose codes stand in a row, each times its scalar.
 pub fn weighted_sum<G: Group>(codes: &[u8], scalars: &[G::Scalar]) -> Result<G, SumFault>
-    ensures { result ≡ weighted_sum model codes.now scalars.now }
+    ensures { result ≡ weighted_sum G.model codes.now scalars.now }
 {
     let width = G::element_width();
     if codes.len() / width != scalars.len() || codes.len() % width != 0 {
@@ -164,20 +164,20 @@ pub fn weighted_sum<G: Group>(codes: &[u8], scalars: &[G::Scalar]) -> Result<G, 
 
 // The elements of every kind are a group, and its scalars multiply them.
 pub fn laws_hold<G: Group>()
-    ensures { Lawful model }
+    ensures { Lawful G.model }
 {}
 
 // What a blind takes away, its inverse gives back.
 pub fn unblinding_holds<G: Group>()
-    ensures { Unblinds model }
+    ensures { Unblinds G.model }
 {}
 
 // A blinded element hides its input: some blind takes every input to it, and only one.
 pub fn one_scalar_holds<G: Group>()
-    ensures { OneScalar model }
+    ensures { OneScalar G.model }
 {}
 
 // What a weighted sum over codes is, by its elements.
 pub fn weighted_sums_hold<G: Group>()
-    ensures { Weighs model }
+    ensures { Weighs G.model }
 {}

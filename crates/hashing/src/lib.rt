@@ -39,7 +39,7 @@ pub fn hash(bytes: &[u8]) -> [u8; 32]
 // The context string: which protocol, which group, which digest.
 pub fn put_context<G: Group>(bytes: &mut [u8], at: usize) -> usize
     requires { at + 31 ≤ length bytes.old }
-    ensures appended { Appended bytes.old bytes.new at result (context_string model) }
+    ensures appended { Appended bytes.old bytes.new at result (context_string G.model) }
     ensures bound { (at ≤ result) × (result ≤ at + 31) }
 {
     let at = put(bytes, at, b"BBTV4-");
@@ -51,7 +51,7 @@ pub fn put_context<G: Group>(bytes: &mut [u8], at: usize) -> usize
 // A code with its length in front.
 pub fn put_framed<G: Group>(bytes: &mut [u8], at: usize, code: &[u8]) -> usize
     requires { at + 2 + length code.now ≤ length bytes.old }
-    ensures appended { Appended bytes.old bytes.new at result (framed_code model code.now) }
+    ensures appended { Appended bytes.old bytes.new at result (framed_code G.model code.now) }
     ensures bound { result ≡ at + 2 + length code.now }
 {
     let at = put(bytes, at, &(G::element_width() as u16).to_be_bytes());
@@ -61,7 +61,7 @@ pub fn put_framed<G: Group>(bytes: &mut [u8], at: usize, code: &[u8]) -> usize
 // An element, as its code with its length in front.
 pub fn put_element<G: Group>(bytes: &mut [u8], at: usize, p: G) -> usize
     requires { at + 10 ≤ length bytes.old }
-    ensures appended { Appended bytes.old bytes.new at result (framed model p) }
+    ensures appended { Appended bytes.old bytes.new at result (framed G.model p) }
     ensures bound { (at ≤ result) × (result ≤ at + 10) }
 {
     put_framed::<G>(bytes, at, p.encode().as_slice())
@@ -72,7 +72,7 @@ fn hash_tagged<G: Group>(bytes: &mut [u8], len: usize, label: &[u8]) -> [u8; 32]
     requires room { len + 45 ≤ length bytes.old }
     requires few { len ≤ 4000 }
     requires label { length label.now ≤ 13 }
-    ensures { result ≡ sha256 (tagged model label.now (take len bytes.old)) }
+    ensures { result ≡ sha256 (tagged G.model label.now (take len bytes.old)) }
 {
     let at = put(bytes, len, label);
     let at = put_context::<G>(bytes, at);
@@ -84,7 +84,7 @@ fn hash_tagged<G: Group>(bytes: &mut [u8], len: usize, label: &[u8]) -> [u8; 32]
 pub fn hash_to_scalar<G: Group>(bytes: &mut [u8], len: usize) -> G::Scalar
     requires room { len + 45 ≤ length bytes.old }
     requires few { len ≤ 4000 }
-    ensures { result ≡ scalar-hash model (take len bytes.old) }
+    ensures { result ≡ scalar-hash G.model (take len bytes.old) }
 {
     G::reduce(&hash_tagged::<G>(bytes, len, b"HashToScalar-"))
 }
@@ -93,7 +93,7 @@ pub fn hash_to_scalar<G: Group>(bytes: &mut [u8], len: usize) -> G::Scalar
 pub fn hash_to_group<G: Group>(bytes: &mut [u8], input: &[u8]) -> G
     requires room { length input.now + 45 ≤ length bytes.old }
     requires few { length input.now ≤ 4000 }
-    ensures { result ≡ group-hash model input.now }
+    ensures { result ≡ group-hash G.model input.now }
 {
     let len = put(bytes, 0, input);
     G::map(&hash_tagged::<G>(bytes, len, b"HashToGroup-"))
@@ -101,7 +101,7 @@ pub fn hash_to_group<G: Group>(bytes: &mut [u8], input: &[u8]) -> G
 
 // What stands for a public key in a token.
 pub fn key_id<G: Group>(pk: G) -> [u8; 32]
-    ensures { result ≡ id-of model pk }
+    ensures { result ≡ id-of G.model pk }
 {
     hash(pk.encode().as_slice())
 }
@@ -110,7 +110,7 @@ pub fn key_id<G: Group>(pk: G) -> [u8; 32]
 pub fn authenticator<G: Group>(bytes: &mut [u8], input: &[u8], u: G) -> [u8; 32]
     requires room { length input.now + 20 ≤ length bytes.old }
     requires few { length input.now ≤ 4000 }
-    ensures { result ≡ authentic model input.now u }
+    ensures { result ≡ authentic G.model input.now u }
 {
     let at = put(bytes, 0, &(input.len() as u16).to_be_bytes());
     let at = put(bytes, at, input);

@@ -17,8 +17,8 @@ use res2039::Residue;
 
 // Tries to decode, in any kind of group.
 fn told<G: Group>(code: &[u8]) -> u8
-    ensures answer { result ≡ told-by model code.now }
-    ensures meaning { Tells model code.now result }
+    ensures answer { result ≡ told-by G.model code.now }
+    ensures meaning { Tells G.model code.now result }
 {
     if code.len() != G::element_width() {
         return WireFault::WrongLength.refusal().number;

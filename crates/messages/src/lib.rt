@@ -80,7 +80,7 @@ pub fn take_header(message: &[u8]) -> Result<(Header, &[u8]), WireFault>
 
 // The front of a batch: of this kind of group, with 1 to 16 items.
 fn batch_front<G: Group>(message: &[u8]) -> Result<(Header, &[u8]), WireFault>
-    ensures { header_seen result ≡ front_of model message.now }
+    ensures { header_seen result ≡ front_of G.model message.now }
 {
     let (front, rest) = take_header(message)?;
     if front.kind != G::kind() {
@@ -94,7 +94,7 @@ fn batch_front<G: Group>(message: &[u8]) -> Result<(Header, &[u8]), WireFault>
 
 // Reads a request.
 pub fn read_request<G: Group>(message: &[u8]) -> Result<Request<'_>, WireFault>
-    ensures { request_seen result ≡ request-read model message.now }
+    ensures { request_seen result ≡ request-read G.model message.now }
 {
     let (front, rest) = batch_front::<G>(message)?;
     if rest.len() != front.count as usize * G::element_width() {
@@ -109,7 +109,7 @@ pub fn read_request<G: Group>(message: &[u8]) -> Result<Request<'_>, WireFault>
 
 // Parts what comes after the front of a reply of so many items: the codes, c and s.
 pub fn split_reply<G: Group>(count: u8, rest: &[u8]) -> Result<(&[u8], &[u8], &[u8]), WireFault>
-    ensures { split_seen result ≡ reply-split model count rest.now }
+    ensures { split_seen result ≡ reply-split G.model count rest.now }
 {
     let codes = count as usize * G::element_width();
     let width = G::scalar_width();
@@ -123,7 +123,7 @@ pub fn split_reply<G: Group>(count: u8, rest: &[u8]) -> Result<(&[u8], &[u8], &[
 
 // Reads a reply.
 pub fn read_reply<G: Group>(message: &[u8]) -> Result<Reply<'_>, WireFault>
-    ensures { reply_seen result ≡ reply_read model message.now }
+    ensures { reply_seen result ≡ reply_read G.model message.now }
 {
     let (front, rest) = batch_front::<G>(message)?;
     let (items, challenge, response) = split_reply::<G>(front.count, rest)?;
@@ -138,20 +138,20 @@ pub fn read_reply<G: Group>(message: &[u8]) -> Result<Reply<'_>, WireFault>
 
 // How many bytes a request and a reply of so many items have.
 pub fn request_len<G: Group>(count: u8) -> usize
-    ensures { result ≡ request_length model count }
+    ensures { result ≡ request_length G.model count }
 {
     5 + count as usize * G::element_width()
 }
 
 pub fn reply_len<G: Group>(count: u8) -> usize
-    ensures { result ≡ reply_length model count }
+    ensures { result ≡ reply_length G.model count }
 {
     5 + count as usize * G::element_width() + 2 * G::scalar_width()
 }
 
 // The code of item i, counted from 0, of codes in a row.
 pub fn item<G: Group>(items: &[u8], i: usize) -> Option<&[u8]>
-    ensures { item_seen result ≡ item_at model items.now i }
+    ensures { item_seen result ≡ item_at G.model items.now i }
 {
     let width = G::element_width();
     if i >= items.len() / width {
@@ -186,8 +186,8 @@ fn head(kind: u16, epoch: u16, count: u8) -> [u8; 5]
 
 // Writes a request to the front of the outlet, and answers how many bytes it has.
 pub fn write_request<G: Group>(request: Request<'_>, out: &mut [u8]) -> Result<usize, WireFault>
-    ensures written { result ≡ writes_request model (batch request.entry) (length out.old) }
-    ensures out { out.new ≡ laid result (request_bytes model (batch request.entry)) out.old }
+    ensures written { result ≡ writes_request G.model (batch request.entry) (length out.old) }
+    ensures out { out.new ≡ laid result (request_bytes G.model (batch request.entry)) out.old }
 {
     if request.count == 0 || request.count > 16 {
         return Err(WireFault::WrongCount);
@@ -205,8 +205,8 @@ pub fn write_request<G: Group>(request: Request<'_>, out: &mut [u8]) -> Result<u
 
 // Writes a reply to the front of the outlet, and answers how many bytes it has.
 pub fn write_reply<G: Group>(reply: Reply<'_>, out: &mut [u8]) -> Result<usize, WireFault>
-    ensures written { result ≡ writes_reply model (answers reply.entry) (length out.old) }
-    ensures out { out.new ≡ laid result (reply_bytes model (answers reply.entry)) out.old }
+    ensures written { result ≡ writes_reply G.model (answers reply.entry) (length out.old) }
+    ensures out { out.new ≡ laid result (reply_bytes G.model (answers reply.entry)) out.old }
 {
     if reply.count == 0 || reply.count > 16 {
         return Err(WireFault::WrongCount);
@@ -295,17 +295,17 @@ pub fn write_token(
 
 // A batch that one end writes, the other end reads as that batch.
 pub fn round_trip_holds<G: Group>()
-    ensures { RoundTrip model }
+    ensures { RoundTrip G.model }
 {}
 
 // Only its one encoding is read.
 pub fn one_encoding_holds<G: Group>()
-    ensures { OneEncoding model }
+    ensures { OneEncoding G.model }
 {}
 
 // Each item's code stands at its place.
 pub fn places_hold<G: Group>()
-    ensures { Placed model }
+    ensures { Placed G.model }
 {}
 
 // A token is read as it was written, and only its one encoding is read.

@@ -38,7 +38,7 @@ pub extern "C" fn dilkortxi_digest(input: &[u8], out: &mut [u8]) -> u8
 
 // The multiple of an element and a scalar that come as codes.
 fn product<G: Group>(code: &[u8], scalar: &[u8]) -> Result<G, GroupFault>
-    ensures { result ≡ product model code.now scalar.now }
+    ensures { result ≡ product G.model code.now scalar.now }
 {
     let p = G::decode(code)?;
     let s = G::decode_scalar(scalar)?;
@@ -47,8 +47,8 @@ fn product<G: Group>(code: &[u8], scalar: &[u8]) -> Result<G, GroupFault>
 
 // Writes the multiple's code to the front of `out` and answers 0, or answers the fault's number and writes nothing.
 fn tell<G: Group>(product: Result<G, GroupFault>, out: &mut [u8]) -> u8
-    ensures status { result ≡ product_status model product (length out.old) }
-    ensures out { out.new ≡ product_out model product out.old }
+    ensures status { result ≡ product_status G.model product (length out.old) }
+    ensures out { out.new ≡ product_out G.model product out.old }
 {
     match product {
         Err(none) => none.refusal().number,

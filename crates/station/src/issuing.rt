@@ -25,8 +25,8 @@ pub fn accept<'a, G: Group>(
     nonce: &[u8],
     outlet: usize,
 ) -> Result<(Request<'a>, G::NonZero, G::NonZero), StationFault>
-    ensures answer { order_seen result ≡ accepted model scratch (key_in (places ring.now)) request.now nonce.now outlet }
-    ensures known { IfOk result (λ x. Sound model scratch outlet (batch x.0)) }
+    ensures answer { order_seen result ≡ accepted G.model scratch (key_in (places ring.now)) request.now nonce.now outlet }
+    ensures known { IfOk result (λ x. Sound G.model scratch outlet (batch x.0)) }
 {
     if scratch < ENOUGH {
         return Err(StationFault::Wire(WireFault::ShortScratch));
@@ -46,7 +46,7 @@ pub fn accept<'a, G: Group>(
 // The element of an item's code, which must not be the null's; a fault becomes the item's, which counts from 1.
 fn item<G: Group>(place: u8, code: &[u8]) -> Result<G, BatchFault>
     requires { place < 16 }
-    ensures { result ≡ of_item place (element_of model code.now) }
+    ensures { result ≡ of_item place (element_of G.model code.now) }
 {
     match element::<G>(code) {
         Ok(p) => Ok(p),
@@ -65,9 +65,9 @@ fn answer_items<G: Group>(
     codes: &mut [u8; 128],
 ) -> Result<usize, BatchFault>
     requires few { count ≤ 16 }
-    requires whole { length items.now ≡ count * model.element_width }
-    ensures codes { MatchResult result (λ end. answer_codes model key 0 count items.now [] ≡ Ok (take end codes.new)) (λ f. answer_codes model key 0 count items.now [] ≡ Err f) }
-    ensures end { IfOk result (λ end. end ≡ count * model.element_width) }
+    requires whole { length items.now ≡ count * G.model.element_width }
+    ensures codes { MatchResult result (λ end. answer_codes G.model key 0 count items.now [] ≡ Ok (take end codes.new)) (λ f. answer_codes G.model key 0 count items.now [] ≡ Err f) }
+    ensures end { IfOk result (λ end. end ≡ count * G.model.element_width) }
 {
     let width = G::element_width();
     let mut at = 0;
@@ -88,9 +88,9 @@ pub fn reply<G: Group>(
     nonce: G::NonZero,
     outlet: &mut [u8],
 ) -> Result<usize, BatchFault>
-    requires { Sound model (length bytes.old) (length outlet.old) (batch request) }
-    ensures answer { result ≡ reply_counted (replied model (record { batch = batch request.entry; key = key; nonce = nonce })) }
-    ensures outlet { outlet.new ≡ reply_laid (replied model (record { batch = batch request.entry; key = key; nonce = nonce })) outlet.old }
+    requires { Sound G.model (length bytes.old) (length outlet.old) (batch request) }
+    ensures answer { result ≡ reply_counted (replied G.model (record { batch = batch request.entry; key = key; nonce = nonce })) }
+    ensures outlet { outlet.new ≡ reply_laid (replied G.model (record { batch = batch request.entry; key = key; nonce = nonce })) outlet.old }
 {
     let mut codes = [0; 128];
     let end = answer_items::<G>(key, request.items, request.count, &mut codes)?;

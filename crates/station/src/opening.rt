@@ -17,8 +17,8 @@ pub fn admitted_key<G: Group>(
     key: &[u8],
     outlet: usize,
 ) -> Result<G::NonZero, StationFault>
-    ensures answer { result ≡ opened-by model scratch (admits ring.now epoch) key.now outlet }
-    ensures fits { OnOk result (model.element_width ≤ outlet) }
+    ensures answer { result ≡ opened-by G.model scratch (admits ring.now epoch) key.now outlet }
+    ensures fits { OnOk result (G.model.element_width ≤ outlet) }
 {
     if scratch < ENOUGH {
         return Err(StationFault::Wire(WireFault::ShortScratch));

@@ -29,7 +29,7 @@ fn authentic<G: Group>(
 ) -> Result<(), StationFault>
     requires room { 1024 ≤ length bytes.old }
     requires input { length input.now ≡ 100 }
-    ensures { result ≡ authentic-by model key id.now told.now input.now }
+    ensures { result ≡ authentic-by G.model key id.now told.now input.now }
 {
     if !same(id, &key_id(public::<G>(key))) {
         return Err(StationFault::Token(TokenFault::OtherKey));
@@ -50,7 +50,7 @@ pub fn redeemed_pair<G: Group>(
     bytes: &mut [u8],
     token: &[u8],
 ) -> Result<(u16, [u8; 32]), StationFault>
-    ensures { result ≡ redeemable model (length bytes.old) (key_in (places ring.now)) token.now }
+    ensures { result ≡ redeemable G.model (length bytes.old) (key_in (places ring.now)) token.now }
 {
     if bytes.len() < ENOUGH {
         return Err(StationFault::Wire(WireFault::ShortScratch));

@@ -1,5 +1,5 @@
 -- Texts that grow at the end, by one piece and by several. Assumes nothing.
-use Rattle.std.proofs.Common.{◌≡◌, ℕ, ◌+◌, ◌<◌, ◌≤◌, true, false, cond, List, [], ◌∷◌, ◌++◌, length, get_or, take, drop, is_ok, is_err, Ok, Err, vec_items, vec_len, vec_capacity, Result, Vec, sym, refl, ap, ◌∙◌, subst, append_assoc, arith, MatchResult}
+use Rattle.std.proofs.Common.{◌≡◌, ℕ, ◌+◌, ◌<◌, ◌≤◌, true, false, cond, List, [], ◌∷◌, ◌++◌, length, get_or, take, drop, is_ok, is_err, Ok, Err, vec_items, vec_len, vec_capacity, Result, Vec, sym, refl, ap, ◌∙◌, subst, append_assoc, arith, OnErr}
 use Rattle.std.proofs.lemmas.List.{take_more, flat_map_more, take-append-drop, length-append}
 use Rattle.std.proofs.lemmas.Bool.{true≢false, false≢true}
 use Rattle.std.specs.List.{flat_map}
@@ -9,9 +9,9 @@ use Rattle.text.specs.Appending.{Appends}
 
 pub appended : (more bs : List ℕ) (v w : Vec ℕ Global) (r : Result (Unit {0}) AllocError) → more ≡ bs →
     vec_items w ≡ cond (is_ok r) (vec_items v ++ more) (vec_items v) → vec_capacity v ≤ vec_capacity w →
-    MatchResult r (λ _. vec_len w ≡ vec_len v + length more) (λ _. vec_capacity v < vec_len v + length more) → Appends bs v w r
-appended more bs v w (Ok u) same items room cases = (items ∙ ap (λ l. vec_items v ++ l) same, room)
-appended more bs v w (Err e) same items room cases = (items, subst (λ l. vec_capacity v < vec_len v + length l) same cases)
+    OnErr r (vec_capacity v < vec_len v + length more) → Appends bs v w r
+appended more bs v w (Ok u) same items room full = (items ∙ ap (λ l. vec_items v ++ l) same, room)
+appended more bs v w (Err e) same items room full = (items, subst (λ l. vec_capacity v < vec_len v + length l) same full)
 
 pub appends_ok : (bs : List ℕ) (v w : Vec ℕ Global) (r : Result (Unit {0}) AllocError) → is_err r ≡ false → Appends bs v w r → (vec_items w ≡ vec_items v ++ bs) × (vec_capacity v ≤ vec_capacity w)
 appends_ok bs v w (Ok u) e a = a

@@ -16,14 +16,14 @@ use voprf::blinding::evaluate;
 
 // Whether an element is the null.
 pub fn is_null<G: Group>(p: G) -> bool
-    ensures { result ≡ null-test model p }
+    ensures { result ≡ null-test G.model p }
 {
     p.same(G::null())
 }
 
 // The element of a code; the code of the null is refused.
 pub fn element<G: Group>(code: &[u8]) -> Result<G, GroupFault>
-    ensures { result ≡ element_of model code.now }
+    ensures { result ≡ element_of G.model code.now }
 {
     let p = G::decode(code)?;
     if is_null(p) {
@@ -34,7 +34,7 @@ pub fn element<G: Group>(code: &[u8]) -> Result<G, GroupFault>
 
 // The nonzero scalar of a code: a key, a blind or a proof nonce.
 pub fn nonzero<G: Group>(code: &[u8]) -> Result<G::NonZero, GroupFault>
-    ensures { result ≡ key_of model code.now }
+    ensures { result ≡ key_of G.model code.now }
 {
     let s = G::decode_scalar(code)?;
     G::nonzero(s)
@@ -47,7 +47,7 @@ pub fn input<G: Group>(
     context: &[u8],
     pk: &[u8],
 ) -> Result<[u8; 100], BatchFault>
-    ensures { result ≡ input_answer model epoch nonce.now context.now pk.now }
+    ensures { result ≡ input_answer G.model epoch nonce.now context.now pk.now }
 {
     if nonce.len() != 32 || context.len() != 32 || pk.len() != G::element_width() {
         return Err(BatchFault::Wire(WireFault::WrongLength));
@@ -63,7 +63,7 @@ pub fn direct<G: Group>(
     key: &[u8],
     input: &[u8],
 ) -> Result<[u8; 32], BatchFault>
-    ensures answer { result ≡ direct_answer model (length scratch.old) key.now input.now }
+    ensures answer { result ≡ direct_answer G.model (length scratch.old) key.now input.now }
     ensures clean { scratch.new ≡ replicate (length scratch.old) 0 }
 {
     let work = Scratch { bytes: scratch };

@@ -7,7 +7,7 @@ use hashing::{authenticator, hash_to_group};
 
 // The public key of a key.
 pub fn public<G: Group>(key: G::NonZero) -> G
-    ensures { result ≡ public_key model key }
+    ensures { result ≡ public_key G.model key }
 {
     G::base_multiple(G::scalar_of(key))
 }
@@ -16,21 +16,21 @@ pub fn public<G: Group>(key: G::NonZero) -> G
 pub fn blind<G: Group>(bytes: &mut [u8], blind: G::NonZero, input: &[u8]) -> G
     requires room { length input.now + 45 ≤ length bytes.old }
     requires few { length input.now ≤ 4000 }
-    ensures { result ≡ blinded model blind input.now }
+    ensures { result ≡ blinded G.model blind input.now }
 {
     multiple(G::scalar_of(blind), hash_to_group::<G>(bytes, input))
 }
 
 // What a station answers to an element.
 pub fn evaluate<G: Group>(key: G::NonZero, sent: G) -> G
-    ensures { result ≡ answered model key sent }
+    ensures { result ≡ answered G.model key sent }
 {
     multiple(G::scalar_of(key), sent)
 }
 
 // What a shop makes of an answer, under the blind that it sent with.
 pub fn unblind<G: Group>(blind: G::NonZero, got: G) -> G
-    ensures { result ≡ unblinded model blind got }
+    ensures { result ≡ unblinded G.model blind got }
 {
     multiple(G::invert(G::scalar_of(blind)), got)
 }
@@ -39,7 +39,7 @@ pub fn unblind<G: Group>(blind: G::NonZero, got: G) -> G
 pub fn direct<G: Group>(bytes: &mut [u8], key: G::NonZero, input: &[u8]) -> [u8; 32]
     requires room { length input.now + 45 ≤ length bytes.old }
     requires few { length input.now ≤ 4000 }
-    ensures { result ≡ by_key model key input.now }
+    ensures { result ≡ by_key G.model key input.now }
 {
     let mapped = hash_to_group::<G>(bytes, input);
     authenticator(bytes, input, evaluate(key, mapped))
@@ -47,10 +47,10 @@ pub fn direct<G: Group>(bytes: &mut [u8], key: G::NonZero, input: &[u8]) -> [u8;
 
 // Unblinding an answer gives what the key gives directly.
 pub fn unblinding_gives_direct<G: Group>()
-    ensures { UnblindingGivesDirect model }
+    ensures { UnblindingGivesDirect G.model }
 {}
 
 // A blinded element says nothing of its input.
 pub fn every_input_fits<G: Group>()
-    ensures { EveryInputFits model }
+    ensures { EveryInputFits G.model }
 {}

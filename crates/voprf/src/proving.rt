@@ -13,7 +13,7 @@ pub const MOST: usize = 16;
 // What all weights of a batch begin with.
 fn seed<G: Group>(bytes: &mut [u8], pk: G) -> [u8; 32]
     requires { 1024 ≤ length bytes.old }
-    ensures { result ≡ seed-of model pk }
+    ensures { result ≡ seed-of G.model pk }
 {
     let at = put_element(bytes, 0, pk);
     // "Seed-" has 5 bytes, and the context string 15 beside the group's name
@@ -34,7 +34,7 @@ fn weight<G: Group>(
     requires room { 1024 ≤ length bytes.old }
     requires sent { length sent.now ≤ 8 }
     requires got { length got.now ≤ 8 }
-    ensures { result ≡ weight-of model seed.now place sent.now got.now }
+    ensures { result ≡ weight-of G.model seed.now place sent.now got.now }
 {
     let at = put(bytes, 0, &[0, 32]);
     let at = put(bytes, at, seed);
@@ -48,7 +48,7 @@ fn weight<G: Group>(
 // The element of an item's code; a fault of the group becomes one of the batch, with the item, from 1.
 fn item<G: Group>(place: u16, code: &[u8]) -> Result<G, BatchFault>
     requires { place < 16 }
-    ensures { result ≡ read_item model place (model.element code.now) }
+    ensures { result ≡ read_item G.model place (G.model.element code.now) }
 {
     match G::decode(code) {
         Ok(p) => Ok(p),
@@ -73,7 +73,7 @@ fn add_item<G: Group>(
     requires place { place < 16 }
     requires sent { length sent.now ≤ 8 }
     requires got { length got.now ≤ 8 }
-    ensures { result ≡ step model seed.now place sent.now got.now (m, w) }
+    ensures { result ≡ step G.model seed.now place sent.now got.now (m, w) }
 {
     let b = item::<G>(place, sent)?;
     let e = item::<G>(place, got)?;
@@ -91,9 +91,9 @@ fn sum_items<G: Group>(
 ) -> Result<(G, G), BatchFault>
     requires room { 1024 ≤ length bytes.old }
     requires few { count ≤ 16 }
-    requires sent { length sent.now ≡ count * model.element_width }
+    requires sent { length sent.now ≡ count * G.model.element_width }
     requires got { length got.now ≡ length sent.now }
-    ensures { result ≡ steps model seed.now 0 count sent.now got.now (null model, null model) }
+    ensures { result ≡ steps G.model seed.now 0 count sent.now got.now (null G.model, null G.model) }
 {
     let width = G::element_width();
     let mut m = G::null();
@@ -117,7 +117,7 @@ pub fn composites<G: Group>(
     got: &[u8],
 ) -> Result<(G, G), BatchFault>
     requires { 1024 ≤ length bytes.old }
-    ensures { result ≡ composed model pk sent.now got.now }
+    ensures { result ≡ composed G.model pk sent.now got.now }
 {
     let width = G::element_width();
     let count = sent.len() / width;
@@ -131,7 +131,7 @@ pub fn composites<G: Group>(
 // The hash that ties a proof to its key, its composites and its two commitments.
 fn challenge<G: Group>(bytes: &mut [u8], pk: G, m: G, w: G, t2: G, t3: G) -> G::Scalar
     requires { 1024 ≤ length bytes.old }
-    ensures { result ≡ challenged model pk m w t2 t3 }
+    ensures { result ≡ challenged G.model pk m w t2 t3 }
 {
     let at = put_element(bytes, 0, pk);
     let at = put_element(bytes, at, m);
@@ -152,7 +152,7 @@ pub fn prove<G: Group>(
     got: &[u8],
 ) -> Result<(G::Scalar, G::Scalar), BatchFault>
     requires { 1024 ≤ length bytes.old }
-    ensures { result ≡ proved model key nonce pk sent.now got.now }
+    ensures { result ≡ proved G.model key nonce pk sent.now got.now }
 {
     let (m, w) = composites(bytes, pk, sent, got)?;
     let u = G::scalar_of(nonce);
@@ -164,7 +164,7 @@ pub fn prove<G: Group>(
 // The challenge that a proof leads back to.
 fn retrace<G: Group>(bytes: &mut [u8], pk: G, m: G, w: G, c: G::Scalar, s: G::Scalar) -> G::Scalar
     requires { 1024 ≤ length bytes.old }
-    ensures { result ≡ rechallenge model pk (m, w) (c, s) }
+    ensures { result ≡ rechallenge G.model pk (m, w) (c, s) }
 {
     let t2 = G::base_multiple(s).sum(multiple(c, pk));
     let t3 = multiple(s, m).sum(multiple(c, w));
@@ -181,7 +181,7 @@ pub fn check<G: Group>(
     s: G::Scalar,
 ) -> Result<(), BatchFault>
     requires { 1024 ≤ length bytes.old }
-    ensures { result ≡ checked model pk sent.now got.now (c, s) }
+    ensures { result ≡ checked G.model pk sent.now got.now (c, s) }
 {
     let (m, w) = composites(bytes, pk, sent, got)?;
     if !G::same_scalar(retrace(bytes, pk, m, w, c, s), c) {
@@ -192,5 +192,5 @@ pub fn check<G: Group>(
 
 // What the prover makes passes the check.
 pub fn proofs_pass<G: Group>()
-    ensures { ProofsPass model }
+    ensures { ProofsPass G.model }
 {}

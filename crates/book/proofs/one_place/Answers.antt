@@ -10,7 +10,7 @@ returns g c =
     let m = g.B.Book.meaning in
     let start = m c.clear.new.self in
     let end = m c.mark-last.new.self in
-    let told : Answers (worked_calls c.args.a.now c.args.b.now) = (c.mark-first.result, (c.mark-again.result, (c.mark-other.result, (c.drop-epoch-dropped.result, (c.mark-last.result, tt))))) in
+    let told : Answers (worked_calls c.args.a.now c.args.b.now) = (c.mark-first.result, (c.mark-again.result, (c.mark-other.result, (c.drop_epoch-dropped.result, (c.mark-last.result, tt))))) in
     let run : Runs start (worked_calls c.args.a.now c.args.b.now) told end = (
       m c.mark-first.new.self,
       c.mark-first.ensures,
@@ -21,8 +21,8 @@ returns g c =
           m c.mark-other.new.self,
           c.mark-other.ensures,
           (
-            m c.drop-epoch-dropped.new.self,
-            c.drop-epoch-dropped.ensures,
+            m c.drop_epoch-dropped.new.self,
+            c.drop_epoch-dropped.ensures,
             (end, c.mark-last.ensures, becomes_same end end refl refl),
           ),
         ),

@@ -22,7 +22,7 @@ pub loop-number-preserved : goal.loop-number-preserved
 loop-number-preserved g c =
     let t = g.R.Records.table c.loop-number.records in
     let k = c.loop-number.number in
-    let p = c.put-next.ensures.table in
+    let p = c.put_next.ensures.table in
     let inv = c.loop-number.invariant in
     let e : Entry = record { next = k + 1; epoch = (entry t.entries k).epoch; nonce = (entry t.entries k).nonce } in
     let long : length t.entries ≡ length (g.R.Records.table c.wipe.new.self).entries = inv.2 in
@@ -31,7 +31,7 @@ loop-number-preserved g c =
       ap (λ (u : Table). u.size) p ∙ inv.1,
       ap (λ (u : Table). length u.entries) p ∙ length_put t.entries k e ∙ inv.2,
       (λ j lt. ap (λ (u : Table). get_or u.entries j blank) p ∙ one_chained t.entries k j (omega arith) inside (omega arith) (λ i b. inv.3 i (omega arith))),
-      c.put-next.ensures.beside ∙ inv.4,
+      c.put_next.ensures.beside ∙ inv.4,
     )
 
 pub returns : goal.returns
@@ -43,6 +43,6 @@ returns g c =
     let wiped : length (g.R.Records.table c.wipe.new.self).entries ≡ n = ap (λ (u : Table). length u.entries) w ∙ length-replicate n blank in
     let long : length t.entries ≡ n = inv.2 ∙ wiped in
     record {
-      table = c.put-head.ensures.table ∙ all_chained t n c.loop-number.number inv.0 inv.1 long (omega (arith, c.places-number-end.ensures)) (λ some. omega (arith, c.places-number-end.ensures)) (λ j b. inv.3 j (omega arith));
-      beside = c.put-head.ensures.beside ∙ inv.4 ∙ c.wipe.ensures.beside;
+      table = c.put_head.ensures.table ∙ all_chained t n c.loop-number.number inv.0 inv.1 long (omega (arith, c.places-number-end.ensures)) (λ some. omega (arith, c.places-number-end.ensures)) (λ j b. inv.3 j (omega arith));
+      beside = c.put_head.ensures.beside ∙ inv.4 ∙ c.wipe.ensures.beside;
     }

@@ -23,5 +23,5 @@ returns g c =
     record {
       table = sym (ap (λ n. swept_from e c.loop-chain.chain n t) end ∙ swept_none e c.loop-chain.chain t) ∙ c.loop-chain.invariant.0;
       beside = c.loop-chain.invariant.1;
-      count = omega (arith, c.saturating-sub.ensures, c.count-size.ensures, c.count.ensures);
+      count = omega (arith, c.saturating_sub.ensures, c.count-size.ensures, c.count.ensures);
     }

@@ -9,8 +9,8 @@ returns g c = record {
     not_from_Decides c.find.result c.find.ensures c.if-find.false,
     omega arith,
     marked_by (g.R.Records.table c.args.records.now) _ _ _ _ (c.args.epoch, c.args.nonce.now) _ _ _ _ _
-        c.head-number.ensures c.chain-of-chain.ensures c.next-free.ensures c.head-first.ensures c.count-size.ensures
-        c.put.ensures.table c.put-head.ensures.table c.put-head-2.ensures.table c.put-count.ensures.table,
+        c.head-number.ensures c.chain_of-chain.ensures c.next-free.ensures c.head-first.ensures c.count-size.ensures
+        c.put.ensures.table c.put_head.ensures.table c.put_head-2.ensures.table c.put_count.ensures.table,
   );
-  beside = c.put-count.ensures.beside ∙ c.put-head-2.ensures.beside ∙ c.put-head.ensures.beside ∙ c.put.ensures.beside;
+  beside = c.put_count.ensures.beside ∙ c.put_head-2.ensures.beside ∙ c.put_head.ensures.beside ∙ c.put.ensures.beside;
 }

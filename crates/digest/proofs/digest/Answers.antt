@@ -14,5 +14,5 @@ returns c =
     let rest : take (length input - (length input - length input % 64)) (drop (length input - length input % 64) input) ≡ drop (64 * n) input =
     take_rest input (length input - length input % 64) ∙ ap (λ (i : ℕ). drop i input) from in
     let whole = closed_whole initial input n refl in
-    let value : c.bytes-of.result ≡ sha256 input = cc in
+    let value : c.bytes_of.result ≡ sha256 input = cc in
     search rules

@@ -10,17 +10,17 @@ returns-then-rest-le-BLOCK c =
     let rest = c.args.rest.now in
     let total = c.args.total in
     let zeros : zeros_after total ≡ 64 - 9 - length rest = let h = c.requires.rest in omega arith in
-    let tail : c.write-tail.new.tail ≡ rest ++ padding total =
-    c.write-tail.ensures ∙ ap (λ (l : List ℕ). rest ++ l) (padding_to (length rest) total 64 zeros) in
+    let tail : c.write_tail.new.tail ≡ rest ++ padding total =
+    c.write_tail.ensures ∙ ap (λ (l : List ℕ). rest ++ l) (padding_to (length rest) total 64 zeros) in
     c.compress.ensures ∙ ap (compressed c.args.state.now) tail
-    ∙ sym (one_block c.args.state.now (rest ++ padding total) (sym (ap length tail) ∙ c.write-tail.auto.tail))
+    ∙ sym (one_block c.args.state.now (rest ++ padding total) (sym (ap length tail) ∙ c.write_tail.auto.tail))
 
 pub returns : goal.returns
 returns c =
     let rest = c.args.rest.now in
     let total = c.args.total in
     let zeros : zeros_after total ≡ 128 - 9 - length rest = let h = c.requires.rest in omega arith in
-    let tail : c.write-tail-2.new.tail ≡ rest ++ padding total =
-    c.write-tail-2.ensures ∙ ap (λ (l : List ℕ). rest ++ l) (padding_to (length rest) total 128 zeros) in
-    let both = two_blocks c.args.state.now (rest ++ padding total) (sym (ap length tail) ∙ c.write-tail-2.auto.tail) in
+    let tail : c.write_tail-2.new.tail ≡ rest ++ padding total =
+    c.write_tail-2.ensures ∙ ap (λ (l : List ℕ). rest ++ l) (padding_to (length rest) total 128 zeros) in
+    let both = two_blocks c.args.state.now (rest ++ padding total) (sym (ap length tail) ∙ c.write_tail-2.auto.tail) in
     cc

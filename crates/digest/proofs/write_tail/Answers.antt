@@ -6,7 +6,7 @@ use Rattle.digest.proofs.write_tail.Goals as goal
 pub returns : goal.returns
 unfolding eight_bytes
 returns c =
-    let last : c.copy-from-slice-2.new.self ≡ eight_bytes (8 * c.args.total) = c.copy-from-slice-2.ensures.after ∙ c.to-be-bytes.ensures in
-    tail_is c.args.tail.now c.args.rest.now c.copy-from-slice.new.self c.copy-from-slice-2.new.self _
-    c.requires.blank c.requires.fits c.copy-from-slice.ensures.after (ap length last) (let h = c.requires.fits in omega arith)
+    let last : c.copy_from_slice-2.new.self ≡ eight_bytes (8 * c.args.total) = c.copy_from_slice-2.ensures.after ∙ c.to_be_bytes.ensures in
+    tail_is c.args.tail.now c.args.rest.now c.copy_from_slice.new.self c.copy_from_slice-2.new.self _
+    c.requires.blank c.requires.fits c.copy_from_slice.ensures.after (ap length last) (let h = c.requires.fits in omega arith)
     ∙ ap (λ (l : List ℕ). c.args.rest.now ++ (0x80 ∷ (replicate (length c.args.tail.now - 9 - length c.args.rest.now) 0 ++ l))) last

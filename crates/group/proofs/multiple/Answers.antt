@@ -6,7 +6,7 @@ pub loop-place-init : goal.loop-place-init
 loop-place-init g c =
     let m = g.G.Group.model in
     let wide = m.scalars.wide in
-    let width = c.scalar-width-place.ensures in (
+    let width = c.scalar_width-place.ensures in (
       omega arith,
       c.null-r.ensures ∙ none_past_code m c.args.s c.args.p ∙ ap (λ (w : ℕ). above m c.args.s c.args.p (8 * w)) (sym width),
     )

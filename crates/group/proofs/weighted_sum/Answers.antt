@@ -10,11 +10,11 @@ returns-then-codes-width g c =
     let m = g.G.Group.model in
     let codes = c.args.codes.now in
     let scalars = c.args.scalars.now in
-    let width = c.element-width-width.ensures in
+    let width = c.element_width-width.ensures in
     let some = m.element_some in
     wrong_length m codes scalars
     (λ e.
-    let both = length_quotient (length codes) (length scalars) c.element-width-width.result (omega arith) (e ∙ ap (λ (w : ℕ). length scalars * w) (sym width)) in
+    let both = length_quotient (length codes) (length scalars) c.element_width-width.result (omega arith) (e ∙ ap (λ (w : ℕ). length scalars * w) (sym width)) in
     elim c.then-codes-width.branch [
       | then-codes-width-via-then-codes-width w ↦ w.if-codes-width.true both.0
       | then-codes-width-via-else-codes-width+then-codes-width-ne0 w ↦ w.if-codes-width-ne0.true both.1
@@ -25,42 +25,42 @@ loop-i-init g c =
     let m = g.G.Group.model in
     let codes = c.args.codes.now in
     let scalars = c.args.scalars.now in
-    let long = whole_length (length codes) (length scalars) c.element-width-width.result c.if-codes-width.false c.if-codes-width-ne0.false in (
+    let long = whole_length (length codes) (length scalars) c.element_width-width.result c.if-codes-width.false c.if-codes-width-ne0.false in (
       sym (zero-mul m.element_width),
-      ap (λ t. onward m t 1 codes scalars) c.null-total.ensures ∙ onward_start m codes scalars (long ∙ ap (λ (w : ℕ). length scalars * w) c.element-width-width.ensures),
+      ap (λ t. onward m t 1 codes scalars) c.null-total.ensures ∙ onward_start m codes scalars (long ∙ ap (λ (w : ℕ). length scalars * w) c.element_width-width.ensures),
     )
 
 -- the item's code ends within the codes
-ends : (g : Over) (c : goal.In-loop-i g) → c.loop-i.at + c.element-width-width.result ≤ length c.args.codes.now
+ends : (g : Over) (c : goal.In-loop-i g) → c.loop-i.at + c.element_width-width.result ≤ length c.args.codes.now
 ends g c =
     let scalars = c.args.scalars.now in
-    let w = c.element-width-width.result in
+    let w = c.element_width-width.result in
     item_within c.loop-i.at c.loop-i.i w (length scalars) (length c.args.codes.now) c.loop-i-test.true
-    (c.loop-i.invariant.0 ∙ ap (λ (n : ℕ). c.loop-i.i * n) (sym c.element-width-width.ensures))
+    (c.loop-i.invariant.0 ∙ ap (λ (n : ℕ). c.loop-i.i * n) (sym c.element_width-width.ensures))
     (whole_length (length c.args.codes.now) (length scalars) w c.if-codes-width.false c.if-codes-width-ne0.false)
 
-pub overflow-add-end : goal.overflow-add-end
-overflow-add-end g c =
-    let width = c.element-width-width.ensures in
+pub overflow_add-end : goal.overflow_add-end
+overflow_add-end g c =
+    let width = c.element_width-width.ensures in
     let fits = g.G.Group.model.element_fits in
     omega (arith, ends g c)
 
-pub slice-bounds-decode-end : goal.slice-bounds-decode-end
-slice-bounds-decode-end g c = omega (arith, ends g c)
+pub slice_bounds-decode-end : goal.slice_bounds-decode-end
+slice_bounds-decode-end g c = omega (arith, ends g c)
 
 pub returns-in-Err : goal.returns-in-Err
 returns-in-Err g c =
-    bad_item g.G.Group.model c.args.codes.now c.args.scalars.now c.loop-i.total c.loop-i.at c.loop-i.i c.element-width-width.result
-    c.loop-i-test.true c.element-width-width.ensures c.in-Err.fault c.in-Err.ensures ∙
+    bad_item g.G.Group.model c.args.codes.now c.args.scalars.now c.loop-i.total c.loop-i.at c.loop-i.i c.element_width-width.result
+    c.loop-i-test.true c.element_width-width.ensures c.in-Err.fault c.in-Err.ensures ∙
     c.loop-i.invariant.1
 
 pub loop-i-preserved : goal.loop-i-preserved
 loop-i-preserved g c =
     let m = g.G.Group.model in
     let i = c.loop-i.i in
-    let width = c.element-width-width.ensures in (
+    let width = c.element_width-width.ensures in (
       omega (arith, ap (λ (n : ℕ). n * m.element_width) (add-one i), suc-mul i m.element_width, c.loop-i.invariant.0),
-      turned m c.args.codes.now c.args.scalars.now c.loop-i.total c.loop-i.at i c.element-width-width.result c.loop-i-test.true width
+      turned m c.args.codes.now c.args.scalars.now c.loop-i.total c.loop-i.at i c.element_width-width.result c.loop-i-test.true width
           c.index-scalars-i.result c.in-Ok.p c.multiple.result c.sum-total.result _
           c.index-scalars-i.is c.in-Ok.ensures c.multiple.ensures c.sum-total.ensures c.loop-i.invariant.1,
     )

@@ -8,8 +8,8 @@ pub returns : goal.returns
 unfolding authenticator
 returns g c =
     let all =
-    and_then (same_part c.to-be-bytes.ensures c.put-at.ensures)
-    (and_then c.put-at-2.ensures (and_then c.put-element-at.ensures.appended c.put-end.ensures)) in
+    and_then (same_part c.to_be_bytes.ensures c.put-at.ensures)
+    (and_then c.put-at-2.ensures (and_then c.put_element-at.ensures.appended c.put-end.ensures)) in
     let from : c.put-end.result - 0 ≡ c.put-end.result = omega arith in
     c.hash.ensures
     ∙ ap (λ (n : ℕ). sha256 (take n c.put-end.new.bytes)) from

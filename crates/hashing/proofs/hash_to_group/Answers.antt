@@ -10,5 +10,5 @@ returns g c =
     let m = g.G.Group.model in
     c.map.ensures
     ∙ ap m.map
-    (c.hash-tagged.ensures
+    (c.hash_tagged.ensures
     ∙ ap (λ (l : List ℕ). sha256 (tagged m (codes "HashToGroup-") l)) (whole c.put-len.ensures))

@@ -5,4 +5,4 @@ use Rattle.hashing.proofs.hash_to_scalar.Goals as goal
 
 pub returns : goal.returns
 unfolding hash_to_scalar
-returns g c = c.reduce.ensures ∙ ap (reduced g.G.Group.model.scalars) c.hash-tagged.ensures
+returns g c = c.reduce.ensures ∙ ap (reduced g.G.Group.model.scalars) c.hash_tagged.ensures

@@ -5,4 +5,4 @@ use Rattle.hashing.proofs.key_id.Goals as goal
 
 pub returns : goal.returns
 unfolding key_id
-returns g c = c.hash.ensures ∙ ap sha256 (c.as-slice.ensures ∙ c.encode.ensures)
+returns g c = c.hash.ensures ∙ ap sha256 (c.as_slice.ensures ∙ c.encode.ensures)

@@ -7,14 +7,14 @@ returns c =
     let at = c.args.at in
     let part = c.args.part.now in
     let bytes = c.args.bytes.now in
-    let copied = c.copy-from-slice.ensures.after in
+    let copied = c.copy_from_slice.ensures.after in
     record {
       ends = refl;
       front =
-          take-put_mid at (at + length part - at) bytes c.copy-from-slice.new.self (at + length part)
+          take-put_mid at (at + length part - at) bytes c.copy_from_slice.new.self (at + length part)
           (ap (λ (l : List ℕ). at + length l) (mathlib.Core.Path.sym copied)) (omega arith)
           ∙ ap (λ (l : List ℕ). take at bytes ++ l) copied;
       rest =
-          drop-put_mid at (at + length part - at) bytes c.copy-from-slice.new.self (at + length part) (omega arith) (omega arith)
+          drop-put_mid at (at + length part - at) bytes c.copy_from_slice.new.self (at + length part) (omega arith) (omega arith)
           (ap length copied ∙ omega arith);
     }

@@ -8,7 +8,7 @@ pub returns : goal.returns
 unfolding framed_code
 returns g c = record {
   appended =
-      and_then (same_part (c.to-be-bytes.ensures ∙ ap two_bytes c.element_width.ensures) c.put-at.ensures)
+      and_then (same_part (c.to_be_bytes.ensures ∙ ap two_bytes c.element_width.ensures) c.put-at.ensures)
       c.put.ensures;
   bound = search rules;
 }

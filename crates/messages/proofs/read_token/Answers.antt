@@ -11,11 +11,11 @@ returns c =
     let bytes = c.args.bytes.now in
     let kind = c.number.ensures in
     let epoch = c.number-2.ensures in
-    let nonce = c.copy-from-slice.ensures.after in
+    let nonce = c.copy_from_slice.ensures.after in
     record {
       fields =
-          ap (λ k. Ok (record { kind = k; epoch = c.number-2.result; nonce = c.copy-from-slice.new.self; context = take 32 (drop 36 bytes); key_id = take 32 (drop 68 bytes); authenticator = take 32 (drop 100 bytes) })) kind ∙
-          ap (λ e. Ok (record { kind = kind_in bytes; epoch = e; nonce = c.copy-from-slice.new.self; context = take 32 (drop 36 bytes); key_id = take 32 (drop 68 bytes); authenticator = take 32 (drop 100 bytes) })) epoch ∙
+          ap (λ k. Ok (record { kind = k; epoch = c.number-2.result; nonce = c.copy_from_slice.new.self; context = take 32 (drop 36 bytes); key_id = take 32 (drop 68 bytes); authenticator = take 32 (drop 100 bytes) })) kind ∙
+          ap (λ e. Ok (record { kind = kind_in bytes; epoch = e; nonce = c.copy_from_slice.new.self; context = take 32 (drop 36 bytes); key_id = take 32 (drop 68 bytes); authenticator = take 32 (drop 100 bytes) })) epoch ∙
           ap (λ n. Ok (record { kind = kind_in bytes; epoch = epoch_in bytes; nonce = n; context = take 32 (drop 36 bytes); key_id = take 32 (drop 68 bytes); authenticator = take 32 (drop 100 bytes) })) nonce ∙
           sym (token_whole bytes c.if-bytes-ne132.false);
       input = refl;

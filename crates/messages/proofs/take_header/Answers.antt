@@ -4,8 +4,8 @@ use Rattle.messages.specs.Messages.{kind_in, epoch_in, count_in, header_in}
 use Rattle.messages.proofs.Reading.{header_short, header_whole}
 use Rattle.messages.proofs.take_header.Goals as goal
 
-pub returns-in-default : goal.returns-in-default
-returns-in-default c = sym (header_short c.args.message.now (omega (arith, ltb-true)))
+pub returns-in_default : goal.returns-in_default
+returns-in_default c = sym (header_short c.args.message.now (omega (arith, ltb-true)))
 
 pub returns : goal.returns
 returns c =

@@ -10,5 +10,5 @@ returns c =
     input_laid c.args.kind c.args.epoch c.args.nonce.now c.args.context.now c.args.key_id.now
     (replicate 100 0) c.put.new.out c.put-2.new.out c.put-3.new.out c.put-4.new.out
     c.put.result c.put-2.result c.put-3.result c.put-4.result
-    (omega arith) (omega arith) c.if-nonce-ne32.false c.if-context-ne32.false c.told-key-id refl
+    (omega arith) (omega arith) c.if-nonce-ne32.false c.if-context-ne32.false c.told-key_id refl
     c.put.ensures c.put-2.ensures c.put-3.ensures c.put-4.ensures

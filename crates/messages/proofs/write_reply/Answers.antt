@@ -14,13 +14,13 @@ returns-then-reply-eq0 g c =
       out = refl;
     }
 
-pub returns-then-reply-element-width : goal.returns-then-reply-element-width
-returns-then-reply-element-width g c =
+pub returns-then-reply-element_width : goal.returns-then-reply-element_width
+returns-then-reply-element_width g c =
     let q = answers c.args.reply in
     record {
       written =
           sym (reply_mislong g.G.Group.model q (length c.args.out.now) (counted q.count (omega arith) (omega arith))
-          (λ l. c.if-reply-element-width.true (l ∙ ap (λ (w : ℕ). q.count * w) (sym c.element_width.ensures))));
+          (λ l. c.if-reply-element_width.true (l ∙ ap (λ (w : ℕ). q.count * w) (sym c.element_width.ensures))));
       out = refl;
     }
 
@@ -30,8 +30,8 @@ returns-then-reply-width g c =
     let q = answers c.args.reply in
     let room = length c.args.out.now in
     let n = counted q.count (omega arith) (omega arith) in
-    let long = c.if-reply-element-width.false ∙ ap (λ (w : ℕ). q.count * w) c.element_width.ensures in
-    let wide = c.scalar-width-width.ensures in
+    let long = c.if-reply-element_width.false ∙ ap (λ (w : ℕ). q.count * w) c.element_width.ensures in
+    let wide = c.scalar_width-width.ensures in
     record {
       written =
           elim c.then-reply-width.branch [
@@ -42,15 +42,15 @@ returns-then-reply-width g c =
       out = refl;
     }
 
-pub returns-then-out-reply-len : goal.returns-then-out-reply-len
-returns-then-out-reply-len g c =
+pub returns-then-out-reply_len : goal.returns-then-out-reply_len
+returns-then-out-reply_len g c =
     let m = g.G.Group.model in
     let q = answers c.args.reply in
-    let wide = c.scalar-width-width.ensures in
+    let wide = c.scalar_width-width.ensures in
     record {
       written =
           sym (reply_narrow m q (length c.args.out.now) (counted q.count (omega arith) (omega arith))
-          (c.if-reply-element-width.false ∙ ap (λ (w : ℕ). q.count * w) c.element_width.ensures)
+          (c.if-reply-element_width.false ∙ ap (λ (w : ℕ). q.count * w) c.element_width.ensures)
           (c.if-reply-width.false ∙ wide) (c.if-reply-width-2.false ∙ wide) (omega arith));
       out = refl;
     }
@@ -66,7 +66,7 @@ put-at-requires-2 g c =
       arith,
       ap length c.head.ensures,
       head_length c.kind.result c.args.reply.epoch c.args.reply.count,
-      c.if-reply-element-width.false ∙ ap (λ (w : ℕ). c.args.reply.count * w) c.element_width.ensures,
+      c.if-reply-element_width.false ∙ ap (λ (w : ℕ). c.args.reply.count * w) c.element_width.ensures,
     )
 
 pub put-at-requires-3 : goal.put-at-requires-3
@@ -76,7 +76,7 @@ put-at-requires-3 g c =
       arith,
       ap length c.head.ensures,
       head_length c.kind.result c.args.reply.epoch c.args.reply.count,
-      c.if-reply-element-width.false ∙ ap (λ (w : ℕ). c.args.reply.count * w) c.element_width.ensures,
+      c.if-reply-element_width.false ∙ ap (λ (w : ℕ). c.args.reply.count * w) c.element_width.ensures,
     )
 
 pub put-end-requires : goal.put-end-requires
@@ -86,15 +86,15 @@ put-end-requires g c =
       arith,
       ap length c.head.ensures,
       head_length c.kind.result c.args.reply.epoch c.args.reply.count,
-      c.if-reply-element-width.false ∙ ap (λ (w : ℕ). c.args.reply.count * w) c.element_width.ensures,
+      c.if-reply-element_width.false ∙ ap (λ (w : ℕ). c.args.reply.count * w) c.element_width.ensures,
     )
 
 pub returns : goal.returns
 returns g c =
     let m = g.G.Group.model in
     let q = answers c.args.reply in
-    let wide = c.scalar-width-width.ensures in
-    let long = c.if-reply-element-width.false ∙ ap (λ (w : ℕ). q.count * w) c.element_width.ensures in
+    let wide = c.scalar_width-width.ensures in
+    let long = c.if-reply-element_width.false ∙ ap (λ (w : ℕ). q.count * w) c.element_width.ensures in
     let first = c.if-reply-width.false ∙ wide in
     let second = c.if-reply-width-2.false ∙ wide in
     let whole = reply_laid m q c.args.out.now c.put-at.new.out c.put-at-2.new.out c.put-at-3.new.out c.put-end.new.out c.head.result

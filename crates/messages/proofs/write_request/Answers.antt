@@ -13,23 +13,23 @@ returns-then-request-eq0 g c =
       out = refl;
     }
 
-pub returns-then-request-element-width : goal.returns-then-request-element-width
-returns-then-request-element-width g c =
+pub returns-then-request-element_width : goal.returns-then-request-element_width
+returns-then-request-element_width g c =
     let q = batch c.args.request in
     record {
       written =
           sym (request_mislong g.G.Group.model q (length c.args.out.now) (counted q.count (omega arith) (omega arith))
-          (λ l. c.if-request-element-width.true (l ∙ ap (λ (w : ℕ). q.count * w) (sym c.element_width.ensures))));
+          (λ l. c.if-request-element_width.true (l ∙ ap (λ (w : ℕ). q.count * w) (sym c.element_width.ensures))));
       out = refl;
     }
 
-pub returns-then-out-request-len : goal.returns-then-out-request-len
-returns-then-out-request-len g c =
+pub returns-then-out-request_len : goal.returns-then-out-request_len
+returns-then-out-request_len g c =
     let q = batch c.args.request in
     record {
       written =
           sym (request_narrow g.G.Group.model q (length c.args.out.now) (counted q.count (omega arith) (omega arith))
-          (c.if-request-element-width.false ∙ ap (λ (w : ℕ). q.count * w) c.element_width.ensures) (omega arith));
+          (c.if-request-element_width.false ∙ ap (λ (w : ℕ). q.count * w) c.element_width.ensures) (omega arith));
       out = refl;
     }
 
@@ -44,14 +44,14 @@ put-end-requires g c =
       arith,
       ap length c.head.ensures,
       head_length c.kind.result c.args.request.epoch c.args.request.count,
-      c.if-request-element-width.false ∙ ap (λ (w : ℕ). c.args.request.count * w) c.element_width.ensures,
+      c.if-request-element_width.false ∙ ap (λ (w : ℕ). c.args.request.count * w) c.element_width.ensures,
     )
 
 pub returns : goal.returns
 returns g c =
     let m = g.G.Group.model in
     let q = batch c.args.request in
-    let long = c.if-request-element-width.false ∙ ap (λ (w : ℕ). q.count * w) c.element_width.ensures in
+    let long = c.if-request-element_width.false ∙ ap (λ (w : ℕ). q.count * w) c.element_width.ensures in
     let whole = request_laid m q c.args.out.now c.put-at.new.out c.put-end.new.out c.head.result c.put-at.result c.put-end.result
     (c.head.ensures ∙ ap (λ k. head_bytes k q.epoch q.count) c.kind.ensures) c.put-at.ensures c.put-end.ensures in
     record {

@@ -4,8 +4,8 @@ use Rattle.res2039.specs.Powers2039.{order_prime}
 use Rattle.res2039.specs.Laws.{order}
 use Rattle.res2039.proofs.order.Goals as goal
 
-pub invariant-of-result : goal.invariant-of-result
-invariant-of-result c = (lit≤ tt, (lit< tt, (order_prime, tt)))
+pub invariant_of-result : goal.invariant_of-result
+invariant_of-result c = record { low = lit≤ tt; high = lit< tt; prime = order_prime }
 
 pub returns : goal.returns
 returns c = one_order _ order

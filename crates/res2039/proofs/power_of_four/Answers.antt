@@ -4,5 +4,5 @@ use Rattle.res2039.proofs.power_of_four.Goals as goal
 
 pub returns : goal.returns
 returns c =
-    let table = c.powers-of-four.ensures in
-    power_at 2039 4 c.powers-of-four.result.now c.args.k table.powers (lit< tt) (omega arith)
+    let table = c.powers_of_four.ensures in
+    power_at 2039 4 c.powers_of_four.result.now c.args.k table.powers (lit< tt) (omega arith)

@@ -7,17 +7,17 @@ pub returns-then-work-lt-ENOUGH : goal.returns-then-work-lt-ENOUGH
 unfolding direct_answer
 returns-then-work-lt-ENOUGH g c = search rules
 
-pub returns-then-key-scalar-width : goal.returns-then-key-scalar-width
+pub returns-then-key-scalar_width : goal.returns-then-key-scalar_width
 unfolding direct_answer
-returns-then-key-scalar-width g c = search rules
+returns-then-key-scalar_width g c = search rules
 
-pub returns-in-err-key : goal.returns-in-err-key
+pub returns-in_err-key : goal.returns-in_err-key
 unfolding direct_answer
-returns-in-err-key g c = search rules
+returns-in_err-key g c = search rules
 
-pub returns-then-is-null : goal.returns-then-is-null
+pub returns-then-is_null : goal.returns-then-is_null
 unfolding direct_answer
-returns-then-is-null g c = search rules
+returns-then-is_null g c = search rules
 
 pub returns : goal.returns
 unfolding direct_answer by_key answered

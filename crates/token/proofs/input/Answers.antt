@@ -7,13 +7,13 @@ pub returns-then-nonce-ne32 : goal.returns-then-nonce-ne32
 unfolding input_answer
 returns-then-nonce-ne32 g c = search rules
 
-pub returns-in-err-pk : goal.returns-in-err-pk
+pub returns-in_err-pk : goal.returns-in_err-pk
 unfolding input_answer
-returns-in-err-pk g c = search rules
+returns-in_err-pk g c = search rules
 
-pub returns-in-err-input : goal.returns-in-err-input
+pub returns-in_err-input : goal.returns-in_err-input
 unfolding input_answer token_input_of token_input
-returns-in-err-input g c = search rules
+returns-in_err-input g c = search rules
 
 pub returns : goal.returns
 unfolding input_answer token_input_of token_input

@@ -3,4 +3,4 @@ use Rattle.chained.proofs.Writes.{read_size}
 use Rattle.chained.proofs.bytes.count.Goals as goal
 
 pub returns : goal.returns
-returns c = c.word-at.ensures ∙ sym (read_size c.args.capacity c.args.m.now)
+returns c = c.word_at.ensures ∙ sym (read_size c.args.capacity c.args.m.now)

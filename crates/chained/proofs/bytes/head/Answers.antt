@@ -6,4 +6,4 @@ pub returns-then-chain-gt-CHAINS : goal.returns-then-chain-gt-CHAINS
 returns-then-chain-gt-CHAINS c = sym (read_no_head c.args.capacity c.args.m.now c.args.chain (omega arith))
 
 pub returns : goal.returns
-returns c = c.word-at.ensures ∙ sym (read_head c.args.capacity c.args.m.now c.args.chain (omega arith))
+returns c = c.word_at.ensures ∙ sym (read_head c.args.capacity c.args.m.now c.args.chain (omega arith))

@@ -14,30 +14,30 @@ pair_is a b xs ys p q = cc
 
 pub returns-then-epoch-eq0 : goal.returns-then-epoch-eq0
 returns-then-epoch-eq0 c =
-    let none = not_from_Decides c.is-record.result c.is-record.ensures c.if-not-is-record.true in
+    let none = not_from_Decides c.is_record.result c.is_record.ensures c.if-not-is_record.true in
     let blank = ap pair_of (read_none c.args.capacity c.args.m.now c.args.number (λ lo hi. none (lo, hi))) in
     let d = slice_eq-Decides Decides-eqb _ _ _ c.eq.ensures in
     (λ t. blank ∙ pair_is _ _ _ _ (sym c.if-epoch-eq0.true) (sym (d.0 t)), λ p. d.1 (sym (ap (λ (q : Pair). q.1) (sym blank ∙ p))))
 
 pub returns-else-epoch-eq0 : goal.returns-else-epoch-eq0
 returns-else-epoch-eq0 c =
-    let none = not_from_Decides c.is-record.result c.is-record.ensures c.if-not-is-record.true in
+    let none = not_from_Decides c.is_record.result c.is_record.ensures c.if-not-is_record.true in
     let blank = ap pair_of (read_none c.args.capacity c.args.m.now c.args.number (λ lo hi. none (lo, hi))) in
     (λ t. absurd (c.if-epoch-eq0.false (eqb-true c.args.epoch 0 t)), λ p. absurd (c.if-epoch-eq0.false (sym (ap (λ (q : Pair). q.0) (sym blank ∙ p)))))
 
-pub returns-then-word-at-epoch : goal.returns-then-word-at-epoch
-returns-then-word-at-epoch c =
-    let some = c.is-record.ensures.0 c.if-not-is-record.false in
+pub returns-then-word_at-epoch : goal.returns-then-word_at-epoch
+returns-then-word_at-epoch c =
+    let some = c.is_record.ensures.0 c.if-not-is_record.false in
     let there = ap pair_of (read_record c.args.capacity c.args.m.now c.args.number some.0 some.1) in
-    let read = c.word-at.ensures ∙ ap (λ x. word c.args.m.now (x + 2)) c.start-at.ensures in
-    (λ t. absurd (false≢true t), λ p. absurd (c.if-word-at-epoch.true (read ∙ ap (λ (q : Pair). q.0) (sym there ∙ p))))
+    let read = c.word_at.ensures ∙ ap (λ x. word c.args.m.now (x + 2)) c.start-at.ensures in
+    (λ t. absurd (false≢true t), λ p. absurd (c.if-word_at-epoch.true (read ∙ ap (λ (q : Pair). q.0) (sym there ∙ p))))
 
 pub returns : goal.returns
 returns c =
     let m = c.args.m.now in
-    let some = c.is-record.ensures.0 c.if-not-is-record.false in
+    let some = c.is_record.ensures.0 c.if-not-is_record.false in
     let there = ap pair_of (read_record c.args.capacity m c.args.number some.0 some.1) in
-    let read = c.word-at.ensures ∙ ap (λ x. word m (x + 2)) c.start-at.ensures in
+    let read = c.word_at.ensures ∙ ap (λ x. word m (x + 2)) c.start-at.ensures in
     let f = ap (λ x. take 32 (drop (x + 4) m)) c.start-at.ensures in
-    let d = c.nonce-at.ensures in
-    (λ t. there ∙ pair_is _ _ _ _ (sym read ∙ c.if-word-at-epoch.false) (sym f ∙ d.0 t), λ p. d.1 (f ∙ ap (λ (q : Pair). q.1) (sym there ∙ p)))
+    let d = c.nonce_at.ensures in
+    (λ t. there ∙ pair_is _ _ _ _ (sym read ∙ c.if-word_at-epoch.false) (sym f ∙ d.0 t), λ p. d.1 (f ∙ ap (λ (q : Pair). q.1) (sym there ∙ p)))

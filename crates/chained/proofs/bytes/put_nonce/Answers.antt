@@ -8,8 +8,8 @@ pub returns : goal.returns
 returns c =
     let at = c.args.at in
     let m = c.args.m.now in
-    let ys = c.copy-from-slice.new.self in
-    let i = c.copy-from-slice.ensures in
+    let ys = c.copy_from_slice.new.self in
+    let i = c.copy_from_slice.ensures in
     let e : (at + 32) - at ≡ 32 = omega arith in
     let ly : length ys ≡ (at + 32) - at = ap length i.after ∙ (let l : length c.args.nonce.now ≡ 32 = search rules in l ∙ sym e) in
     record {

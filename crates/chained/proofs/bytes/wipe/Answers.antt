@@ -19,4 +19,4 @@ returns c =
     subst (λ n. Written c.args.capacity m (put_mid 0 (to - 0) m ys) (zeroed n)) (sym (read_places c.args.capacity m)) (zero_written c.args.capacity m (put_mid 0 (to - 0) m ys) c.requires (put_length m ys 0 (to - 0) (omega arith) long)
     (λ k hi. put_inside m ys 0 (to - 0) k (omega arith) long (omega arith) (omega arith) ∙ ap (λ w. get_or w (k - 0) 0) zeros ∙ get_or-replicate n (k - 0) 0 0 (omega arith))
     (λ k lo. put_outside m ys 0 (to - 0) k (omega arith) long (inr (omega arith)))
-    (λ k. let t = c.type-inv.m k in omega arith))
+    (λ k. let t = c.type_inv.m k in omega arith))

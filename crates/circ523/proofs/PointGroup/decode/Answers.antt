@@ -5,19 +5,19 @@ use Rattle.circ523.specs.Kind.{points}
 use Rattle.circ523.proofs.Steps.{other_length, code_read, no_member}
 use Rattle.circ523.proofs.PointGroup.decode.Goals as goal
 
-pub returns-in-default : goal.returns-in-default
-returns-in-default c = refuses points c.args.bytes.now (other_length c.args.bytes.now (search rules))
+pub returns-in_default : goal.returns-in_default
+returns-in_default c = refuses points c.args.bytes.now (other_length c.args.bytes.now (search rules))
 
-pub returns-in-default·2 : goal.returns-in-default·2
-returns-in-default·2 c = refuses points c.args.bytes.now (other_length c.args.bytes.now (search rules))
+pub returns-in_default-2 : goal.returns-in_default-2
+returns-in_default-2 c = refuses points c.args.bytes.now (other_length c.args.bytes.now (search rules))
 
-pub returns-then-is-member : goal.returns-then-is-member
-returns-then-is-member c =
+pub returns-then-is_member : goal.returns-then-is_member
+returns-then-is_member c =
     let bytes = c.args.bytes.now in
-    let small : (i : ℕ) → get_or bytes i 0 < 256 = λ i. omega (arith, c.type-inv.bytes i) in
+    let small : (i : ℕ) → get_or bytes i 0 < 256 = λ i. omega (arith, c.type_inv.bytes i) in
     decodes points bytes _ (code_read bytes (search rules) small _ refl)
 
-pub returns-else-is-member : goal.returns-else-is-member
-returns-else-is-member c =
+pub returns-else-is_member : goal.returns-else-is_member
+returns-else-is_member c =
     let bytes = c.args.bytes.now in
-    refuses points bytes (no_member bytes (not_from_Decides c.is-member.result c.is-member.ensures c.if-is-member.false))
+    refuses points bytes (no_member bytes (not_from_Decides c.is_member.result c.is_member.ensures c.if-is_member.false))

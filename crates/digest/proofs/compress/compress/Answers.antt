@@ -6,5 +6,5 @@ pub returns : goal.returns
 unfolding compressed
 returns c =
     let state = c.args.state.now in
-    let e : c.all-rounds-v.result ≡ rounds (schedule c.args.block.now) 64 (working state) = cc in
+    let e : c.all_rounds-v.result ≡ rounds (schedule c.args.block.now) 64 (working state) = cc in
     ap (added state) e

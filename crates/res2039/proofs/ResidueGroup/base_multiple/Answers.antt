@@ -5,8 +5,8 @@ use Rattle.res2039.specs.Powers2039.{cycle}
 use Rattle.res2039.proofs.Steps.{base_is}
 use Rattle.res2039.proofs.ResidueGroup.base_multiple.Goals as goal
 
-pub invariant-of-result : goal.invariant-of-result
-invariant-of-result c = (subst (Member 2039 1019) (sym c.power-of-four.ensures) (power_member cycle c.args.s.value), tt)
+pub invariant_of-result : goal.invariant_of-result
+invariant_of-result c = record { member = subst (Member 2039 1019) (sym c.power_of_four.ensures) (power_member cycle c.args.s.value) }
 
 pub returns : goal.returns
-returns c = base_is c.args.s _ c.power-of-four.ensures
+returns c = base_is c.args.s _ c.power_of_four.ensures

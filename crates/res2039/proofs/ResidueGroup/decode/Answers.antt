@@ -6,14 +6,14 @@ use Rattle.res2039.proofs.Steps.{code_is, number_of_code, no_code}
 use Rattle.res2039.proofs.ResidueGroup.decode.Goals as goal
 use Rattle.res2039.proofs.ResidueGroup.decode.Goals.{else-value-lt2039-via-then-value-lt2039+else-raised-eq1, else-value-lt2039-via-else-value-lt2039}
 
-pub returns-in-default : goal.returns-in-default
-returns-in-default c =
+pub returns-in_default : goal.returns-in_default
+returns-in_default c =
     let bytes = c.args.bytes.now in
     let other : length bytes ≡ 2 → ⊥ = λ e. search rules in
     refuses residues bytes (no_code bytes other)
 
-pub returns-in-default·2 : goal.returns-in-default·2
-returns-in-default·2 c =
+pub returns-in_default-2 : goal.returns-in_default-2
+returns-in_default-2 c =
     let bytes = c.args.bytes.now in
     let other : length bytes ≡ 2 → ⊥ = λ e. search rules in
     refuses residues bytes (no_code bytes other)
@@ -22,7 +22,7 @@ pub returns-then-raised-eq1 : goal.returns-then-raised-eq1
 returns-then-raised-eq1 c =
     let bytes = c.args.bytes.now in
     let many : length bytes ≡ 2 = search rules in
-    let small : get_or bytes 1 0 < 256 = omega (arith, c.type-inv.bytes 1) in
+    let small : get_or bytes 1 0 < 256 = omega (arith, c.type_inv.bytes 1) in
     decodes residues bytes _ (code_is _ (get_or bytes 0 0) (get_or bytes 1 0) small refl ∙ sym (two_bytes bytes many))
 
 pub returns-else-value-lt2039 : goal.returns-else-value-lt2039

@@ -5,9 +5,9 @@ use Rattle.res2039.specs.Elements.{mapped}
 use Rattle.res2039.specs.Laws.{same_value}
 use Rattle.res2039.proofs.ResidueGroup.map.Goals as goal
 
-pub invariant-of-result : goal.invariant-of-result
-invariant-of-result c = (square_member (c.leading-word.result % 2038) (mod_below c.leading-word.result 2038 (lit< tt)), tt)
+pub invariant_of-result : goal.invariant_of-result
+invariant_of-result c = record { member = square_member (c.leading_word.result % 2038) (mod_below c.leading_word.result 2038 (lit< tt)) }
 
 pub returns : goal.returns
 unfolding mapped
-returns c = same_value _ _ (ap (λ (n : ℕ). (1 + n % 2038) * (1 + n % 2038) % 2039) c.leading-word.ensures)
+returns c = same_value _ _ (ap (λ (n : ℕ). (1 + n % 2038) * (1 + n % 2038) % 2039) c.leading_word.ensures)

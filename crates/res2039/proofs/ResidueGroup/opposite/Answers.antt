@@ -5,8 +5,8 @@ use Rattle.res2039.specs.Powers2039.{cycle}
 use Rattle.res2039.proofs.Steps.{opposite_is}
 use Rattle.res2039.proofs.ResidueGroup.opposite.Goals as goal
 
-pub invariant-of-result : goal.invariant-of-result
-invariant-of-result c = (subst (Member 2039 1019) (sym c.raised.ensures) (raised_member cycle c.args.self.value 1018 c.args.self.member), tt)
+pub invariant_of-result : goal.invariant_of-result
+invariant_of-result c = record { member = subst (Member 2039 1019) (sym c.raised.ensures) (raised_member cycle c.args.self.value 1018 c.args.self.member) }
 
 pub returns : goal.returns
 returns c = opposite_is c.args.self _ c.raised.ensures

@@ -4,8 +4,8 @@ use Rattle.res2039.specs.Powers2039.{cycle}
 use Rattle.res2039.proofs.Steps.{sum_is}
 use Rattle.res2039.proofs.ResidueGroup.sum.Goals as goal
 
-pub invariant-of-result : goal.invariant-of-result
-invariant-of-result c = (product_member cycle c.args.self.value c.args.other.value c.args.self.member c.args.other.member, tt)
+pub invariant_of-result : goal.invariant_of-result
+invariant_of-result c = record { member = product_member cycle c.args.self.value c.args.other.value c.args.self.member c.args.other.member }
 
 pub returns : goal.returns
 returns c = sum_is c.args.self c.args.other _ refl

@@ -10,6 +10,6 @@ returns c =
     let zeros = c.blank.ensures.zero in
     let size = zeroed_size m c.args.cap zeros in
     let long : length m ≡ length c.args.m.now = omega arith in
-    let again = sound_again c.args.m.now m c.args.cap [] c.requires long c.type-inv.m (omega arith) (λ k lo hi. zeros k (omega arith) hi)
+    let again = sound_again c.args.m.now m c.args.cap [] c.requires long c.type_inv.m (omega arith) (λ k lo hi. zeros k (omega arith) hi)
     (ap (firsts m) size) apart_none (λ k h. c.blank.ensures.others k (inr h)) in
     record { sound = again.0; pairs = ap (firsts m) size; image = again.1 }

@@ -6,20 +6,20 @@ use Rattle.text.specs.Classes.{decimal_digit}
 use Rattle.text.specs.declared.decimal.NumberFault.TheVariants.{NoDigit}
 use Rattle.text.proofs.Numerals.{refuses_empty, refuses_other, refuses_zero, reads_others}
 use Rattle.text.proofs.decimal.read.Goals as goal
-use Rattle.text.proofs.decimal.read.Goals.{Else-is-empty, Else-place-text, else-text-gt1-via-then-text-gt1+else-text-eq48, else-text-gt1-via-else-text-gt1}
+use Rattle.text.proofs.decimal.read.Goals.{Else-is_empty, Else-place-text, else-text-gt1-via-then-text-gt1+else-text-eq48, else-text-gt1-via-else-text-gt1}
 
-some : (c : Else-is-empty) → 0 < length c.args.text.now
-some c = let h = eqb-false _ 0 (sym c.if-is-empty.ensures) in omega arith
+some : (c : Else-is_empty) → 0 < length c.args.text.now
+some c = let h = eqb-false _ 0 (sym c.if-is_empty.ensures) in omega arith
 
 digits : (c : Else-place-text) → prefix_len decimal_digit c.args.text.now ≡ length c.args.text.now
 digits c = omega (arith, prefix_len-le-length decimal_digit c.args.text.now)
 
-pub returns-then-is-empty : goal.returns-then-is-empty
-returns-then-is-empty c = sym (refuses_empty _ _ (eqb-true _ 0 (sym c.if-is-empty.ensures)))
+pub returns-then-is_empty : goal.returns-then-is_empty
+returns-then-is_empty c = sym (refuses_empty _ _ (eqb-true _ 0 (sym c.if-is_empty.ensures)))
 
 pub returns-then-place-text : goal.returns-then-place-text
 returns-then-place-text c =
-    ap (λ n. Err (NoDigit n)) c.run-place.ensures.count ∙ sym (refuses_other c.args.most _ (some (goal.at.returns-then-place-text c).Else-is-empty) (omega arith))
+    ap (λ n. Err (NoDigit n)) c.run-place.ensures.count ∙ sym (refuses_other c.args.most _ (some (goal.at.returns-then-place-text c).Else-is_empty) (omega arith))
 
 pub returns-then-text-eq48 : goal.returns-then-text-eq48
 returns-then-text-eq48 c =
@@ -35,4 +35,4 @@ returns c =
       | else-text-gt1-via-then-text-gt1+else-text-eq48 w ↦ w.if-text-eq48.false zero-c
       | else-text-gt1-via-else-text-gt1 w ↦ omega (arith, w.if-text-gt1.false)
     ] in
-    c.value.ensures ∙ sym (reads_others c.args.most t (some (goal.at.returns c).Else-is-empty) (digits (goal.at.returns c).Else-place-text) other)
+    c.value.ensures ∙ sym (reads_others c.args.most t (some (goal.at.returns c).Else-is_empty) (digits (goal.at.returns c).Else-place-text) other)

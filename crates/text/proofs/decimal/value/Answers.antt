@@ -6,8 +6,8 @@ use Rattle.text.proofs.Numerals.{is_digit, number_grows, one_more, within_is, ab
 use Rattle.text.proofs.Runs.{in_run}
 use Rattle.text.proofs.decimal.value.Goals as goal
 
-pub overflow-sub-digit : goal.overflow-sub-digit
-overflow-sub-digit c = (is_digit _ (in_run decimal_digit c.args.digits.now c.requires c.loop-digit.digit-index c.loop-digit-test.true)).0
+pub overflow_sub-digit : goal.overflow_sub-digit
+overflow_sub-digit c = (is_digit _ (in_run decimal_digit c.args.digits.now c.requires c.loop-digit.digit-index c.loop-digit-test.true)).0
 
 pub returns-then-next-from : goal.returns-then-next-from
 returns-then-next-from c =

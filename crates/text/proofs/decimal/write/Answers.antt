@@ -8,4 +8,4 @@ returns c =
     let all = c.spell-start.new.digits in
     let start = c.spell-start.result in
     let rest : take (20 - start) (drop start all) ≡ drop start all = ap (λ n. take (n - start) (drop start all)) (sym c.spell-start.array_long) ∙ take_rest all start in
-    appended _ _ c.args.text.now c.extend-from-slice.new.self _ (rest ∙ c.spell-start.ensures.digits) c.extend-from-slice.ensures.items c.extend-from-slice.ensures.capacity c.extend-from-slice.ensures.cases
+    appended _ _ c.args.text.now c.extend_from_slice.new.self _ (rest ∙ c.spell-start.ensures.digits) c.extend_from_slice.ensures.items c.extend_from_slice.ensures.capacity c.extend_from_slice.ensures.full

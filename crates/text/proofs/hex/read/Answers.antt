@@ -24,31 +24,31 @@ returns-then-place-text c =
       refl,
     )
 
-pub returns-in-err-reserve : goal.returns-in-err-reserve
-returns-in-err-reserve c =
-    let p = err_from_is_err_and c.from-residual.result c.from-residual.ensures.1 in
-    let in_pairs = whole (goal.at.returns-in-err-reserve c).Else-text-ne0 in
+pub returns-in_err-reserve : goal.returns-in_err-reserve
+returns-in_err-reserve c =
+    let p = err_from_is_err_and c.from_residual.result c.from_residual.ensures.1 in
+    let in_pairs = whole (goal.at.returns-in_err-reserve c).Else-text-ne0 in
     rw (p.1, p.2) (
       reads_pairs _ in_pairs.0 in_pairs.1,
       c.reserve.ensures.items,
-      omega (arith, c.in-err-reserve.ensures.full, length_paired c.args.text.now in_pairs.1),
+      omega (arith, c.in_err-reserve.ensures.full, length_paired c.args.text.now in_pairs.1),
     )
 
 pub loop-rest-init : goal.loop-rest-init
 loop-rest-init c =
     let in_pairs = whole (goal.at.loop-rest-init c).Else-text-ne0 in
-    (record { digits = in_pairs.0; even = in_pairs.1; same = refl }, c.in-ok-reserve.ensures.ok)
+    (record { digits = in_pairs.0; even = in_pairs.1; same = refl }, c.in_ok-reserve.ensures.ok)
 
-pub worth-of-requires : goal.worth-of-requires
-worth-of-requires c = (first_digits _ _ _ (omega (arith, ltb-false)) c.loop-rest.invariant.0).0
+pub worth_of-requires : goal.worth_of-requires
+worth_of-requires c = (first_digits _ _ _ (omega (arith, ltb-false)) c.loop-rest.invariant.0).0
 
-pub worth-of-requires-in-len2-up : goal.worth-of-requires-in-len2-up
-worth-of-requires-in-len2-up c = (first_digits _ _ _ (omega (arith, ltb-false)) c.loop-rest.invariant.0).1
+pub worth_of-requires-in-len2-up : goal.worth_of-requires-in-len2-up
+worth_of-requires-in-len2-up c = (first_digits _ _ _ (omega (arith, ltb-false)) c.loop-rest.invariant.0).1
 
 pub loop-rest-preserved : goal.loop-rest-preserved
 loop-rest-preserved c =
     let r = c.loop-rest.rest.now in (
-      subst (Sofar _ _) (sym c.push-reserved.ensures.items) (one_more _ _ _ _ _ (omega (arith, ltb-false)) c.loop-rest.invariant.0 c.worth-of.ensures.0 c.worth-of-in-len2-up.ensures.0),
+      subst (Sofar _ _) (sym c.push_reserved.ensures.items) (one_more _ _ _ _ _ (omega (arith, ltb-false)) c.loop-rest.invariant.0 c.worth_of.ensures.0 c.worth_of-in-len2-up.ensures.0),
       rw (take_rest r 2) (omega (arith, ltb-false, length-drop 2 r, c.loop-rest.invariant.1)),
     )
 

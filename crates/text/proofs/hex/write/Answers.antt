@@ -5,17 +5,17 @@ use Rattle.text.specs.Hexadecimal.{written}
 use Rattle.text.proofs.Written.{written_more, length_written}
 use Rattle.text.proofs.hex.write.Goals as goal
 
-pub returns-in-err-reserve : goal.returns-in-err-reserve
-returns-in-err-reserve c =
-    let p = err_from_is_err_and c.from-residual.result c.from-residual.ensures.1 in
-    rw p.1 (c.reserve.ensures.items, omega (arith, c.in-err-reserve.ensures.full, length_written c.args.bytes.now))
+pub returns-in_err-reserve : goal.returns-in_err-reserve
+returns-in_err-reserve c =
+    let p = err_from_is_err_and c.from_residual.result c.from_residual.ensures.1 in
+    rw p.1 (c.reserve.ensures.items, omega (arith, c.in_err-reserve.ensures.full, length_written c.args.bytes.now))
 
 pub loop-byte-preserved : goal.loop-byte-preserved
 loop-byte-preserved c =
-    let high = c.push-reserved.ensures in
-    let low = c.push-reserved-in-loop-byte.ensures in (
-      low.items ∙ ap (λ t. t ++ c.digit-of-in-loop-byte.result ∷ []) (high.items ∙ ap (λ t. t ++ c.digit-of.result ∷ []) c.loop-byte.invariant.0)
-          ∙ written_more (vec_items c.reserve.new.self) c.args.bytes.now c.loop-byte.byte-index _ _ c.loop-byte-test.true c.digit-of.ensures c.digit-of-in-loop-byte.ensures,
+    let high = c.push_reserved.ensures in
+    let low = c.push_reserved-in-loop-byte.ensures in (
+      low.items ∙ ap (λ t. t ++ c.digit_of-in-loop-byte.result ∷ []) (high.items ∙ ap (λ t. t ++ c.digit_of.result ∷ []) c.loop-byte.invariant.0)
+          ∙ written_more (vec_items c.reserve.new.self) c.args.bytes.now c.loop-byte.byte-index _ _ c.loop-byte-test.true c.digit_of.ensures c.digit_of-in-loop-byte.ensures,
       omega (arith, c.loop-byte.invariant.1),
       omega (arith, c.loop-byte.invariant.2),
     )

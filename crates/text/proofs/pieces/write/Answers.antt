@@ -5,11 +5,11 @@ use Rattle.text.specs.declared.pieces.Piece.TheVariants.{Number}
 use Rattle.text.proofs.Appended.{appends_ok, appends_err, joined_next, joined_room}
 use Rattle.text.proofs.pieces.write.Goals as goal
 
-pub returns-then-is-err : goal.returns-then-is-err
-returns-then-is-err c =
+pub returns-then-is_err : goal.returns-then-is_err
+returns-then-is_err c =
     let before = c.args.line.now in
     let line = c.loop-piece.line in
-    let gone = appends_err (spelt (get_or c.args.pieces.now c.loop-piece.piece-index (Number 0))) line c.write.new.line _ (sym c.if-is-err.ensures.value) c.write.ensures in
+    let gone = appends_err (spelt (get_or c.args.pieces.now c.loop-piece.piece-index (Number 0))) line c.write.new.line _ (sym c.if-is_err.ensures.value) c.write.ensures in
     let so_far = all_spelt (take c.loop-piece.piece-index c.args.pieces.now) in
     let sum : length (vec_items line) ≡ length (vec_items before) + length so_far = ap length c.loop-piece.invariant.0 ∙ length-append (vec_items before) so_far in
     let room = joined_room spelt c.args.pieces.now c.loop-piece.piece-index (Number 0) c.loop-piece-test.true in (
@@ -20,7 +20,7 @@ returns-then-is-err c =
 pub loop-piece-preserved : goal.loop-piece-preserved
 loop-piece-preserved c =
     let this = spelt (get_or c.args.pieces.now c.loop-piece.piece-index (Number 0)) in
-    let done = appends_ok this c.loop-piece.line c.write.new.line _ (sym c.if-is-err.ensures.value) c.write.ensures in (
+    let done = appends_ok this c.loop-piece.line c.write.new.line _ (sym c.if-is_err.ensures.value) c.write.ensures in (
       done.0 ∙ ap (λ l. l ++ this) c.loop-piece.invariant.0 ∙ joined_next spelt (vec_items c.args.line.now) c.args.pieces.now c.loop-piece.piece-index (Number 0) c.loop-piece-test.true,
       omega (arith, done.1, c.loop-piece.invariant.1),
     )

@@ -8,9 +8,9 @@ pub returns : goal.returns
 unfolding challenge
 returns g c =
     let all =
-    and_then c.put-element-at.ensures.appended
-    (and_then c.put-element-at-2.ensures.appended
-    (and_then c.put-element-at-3.ensures.appended
-    (and_then c.put-element-at-4.ensures.appended
-    (and_then c.put-element-at-5.ensures.appended c.put-len.ensures)))) in
+    and_then c.put_element-at.ensures.appended
+    (and_then c.put_element-at-2.ensures.appended
+    (and_then c.put_element-at-3.ensures.appended
+    (and_then c.put_element-at-4.ensures.appended
+    (and_then c.put_element-at-5.ensures.appended c.put-len.ensures)))) in
     c.hash_to_scalar.ensures ∙ ap (hash_to_scalar g.G.Group.model) (whole all)

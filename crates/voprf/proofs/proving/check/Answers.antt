@@ -5,20 +5,20 @@ use Rattle.voprf.specs.Proving.{then, same_number, composites, rechallenge, chec
 use Rattle.voprf.proofs.Sums.{same_scalars, other_scalars, judged}
 use Rattle.voprf.proofs.proving.check.Goals as goal
 
-pub returns-in-err-m : goal.returns-in-err-m
+pub returns-in_err-m : goal.returns-in_err-m
 unfolding checked
-returns-in-err-m g c = search rules
+returns-in_err-m g c = search rules
 
-pub returns-then-not-same-scalar : goal.returns-then-not-same-scalar
-returns-then-not-same-scalar g c =
+pub returns-then-not-same_scalar : goal.returns-then-not-same_scalar
+returns-then-not-same_scalar g c =
     let m = g.G.Group.model in
-    judged m c.args.pk c.args.sent.now c.args.got.now (c.args.c, c.args.s) (c.in-ok-m.m, c.in-ok-m.w) c.retrace.result false
-    c.in-ok-m.ensures c.retrace.ensures
-    (other_scalars m c.retrace.result c.args.c (λ e. let t = c.same-scalar.ensures.1 e in let f = c.if-not-same-scalar.true in let z : ◌≡◌ {A = ℕ} 0 1 = cc in omega arith))
+    judged m c.args.pk c.args.sent.now c.args.got.now (c.args.c, c.args.s) (c.in_ok-m.m, c.in_ok-m.w) c.retrace.result false
+    c.in_ok-m.ensures c.retrace.ensures
+    (other_scalars m c.retrace.result c.args.c (λ e. let t = c.same_scalar.ensures.1 e in let f = c.if-not-same_scalar.true in let z : ◌≡◌ {A = ℕ} 0 1 = cc in omega arith))
 
 pub returns : goal.returns
 returns g c =
     let m = g.G.Group.model in
-    judged m c.args.pk c.args.sent.now c.args.got.now (c.args.c, c.args.s) (c.in-ok-m.m, c.in-ok-m.w) c.retrace.result true
-    c.in-ok-m.ensures c.retrace.ensures
-    (same_scalars m c.retrace.result c.args.c (c.same-scalar.ensures.0 c.if-not-same-scalar.false))
+    judged m c.args.pk c.args.sent.now c.args.got.now (c.args.c, c.args.s) (c.in_ok-m.m, c.in_ok-m.w) c.retrace.result true
+    c.in_ok-m.ensures c.retrace.ensures
+    (same_scalars m c.retrace.result c.args.c (c.same_scalar.ensures.0 c.if-not-same_scalar.false))

@@ -5,8 +5,8 @@ use Rattle.voprf.proofs.proving.composites.Goals as goal
 
 pub returns-then-sent-count : goal.returns-then-sent-count
 unfolding composites
-returns-then-sent-count g c = let e = c.element-width-width.ensures in grind (arith, nat_tests)
+returns-then-sent-count g c = let e = c.element_width-width.ensures in grind (arith, nat_tests)
 
 pub returns : goal.returns
 unfolding composites
-returns g c = let e = c.element-width-width.ensures in grind (arith, nat_tests)
+returns g c = let e = c.element_width-width.ensures in grind (arith, nat_tests)

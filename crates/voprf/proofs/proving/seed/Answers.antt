@@ -16,10 +16,10 @@ returns g c =
     ap (λ (l : List ℕ). 20 + length l) named
     ∙ omega (arith, length-append m.name (codes "-SHA256")) in
     let all =
-    and_then c.put-element-at.ensures.appended
-    (and_then (same_part (c.to-be-bytes.ensures ∙ ap two_bytes long) c.put-at.ensures)
-    (and_then c.put-at-2.ensures c.put-context-end.ensures.appended)) in
-    let from : c.put-context-end.result - 0 ≡ c.put-context-end.result = omega arith in
+    and_then c.put_element-at.ensures.appended
+    (and_then (same_part (c.to_be_bytes.ensures ∙ ap two_bytes long) c.put-at.ensures)
+    (and_then c.put-at-2.ensures c.put_context-end.ensures.appended)) in
+    let from : c.put_context-end.result - 0 ≡ c.put_context-end.result = omega arith in
     c.hash.ensures
-    ∙ ap (λ (n : ℕ). sha256 (take n c.put-context-end.new.bytes)) from
+    ∙ ap (λ (n : ℕ). sha256 (take n c.put_context-end.new.bytes)) from
     ∙ ap sha256 (whole all)

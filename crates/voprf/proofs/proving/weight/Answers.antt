@@ -10,7 +10,7 @@ returns g c =
     let all =
     and_then c.put-at.ensures
     (and_then c.put-at-2.ensures
-    (and_then (same_part c.to-be-bytes.ensures c.put-at-3.ensures)
-    (and_then c.put-framed-at.ensures.appended
-    (and_then c.put-framed-at-2.ensures.appended c.put-len.ensures)))) in
+    (and_then (same_part c.to_be_bytes.ensures c.put-at-3.ensures)
+    (and_then c.put_framed-at.ensures.appended
+    (and_then c.put_framed-at-2.ensures.appended c.put-len.ensures)))) in
     c.hash_to_scalar.ensures ∙ ap (hash_to_scalar g.G.Group.model) (whole all)

@@ -10,7 +10,7 @@ use Rattle.chained.proofs.chained_book.methods.with_book.Goals as goal
 pub returns : goal.returns
 returns g c =
     let len = length c.args.memory.now in
-    let fits : Ok c.in-ok-capacity.capacity ≡ room_in len = sym c.in-ok-capacity.was ∙ c.capacity-in.ensures.answer in
+    let fits : Ok c.in_ok-capacity.capacity ≡ room_in len = sym c.in_ok-capacity.was ∙ c.capacity_in.ensures.answer in
     let made = c.over.ensures in
     let b = c.over.result in
     record {

@@ -20,7 +20,7 @@ pub returns-then-value : goal.returns-then-value
 unfolding modulo
 returns-then-value g c =
     let bytes = c.args.bytes.now in
-    decoded c.args.self bytes _ (slice_bytes bytes c.type-inv.bytes) (c.if-bytes-width.false ∙ c.width.ensures)
+    decoded c.args.self bytes _ (slice_bytes bytes c.type_inv.bytes) (c.if-bytes-width.false ∙ c.width.ensures)
     (elim c.if-this-le256.branch [
       | then-this-le256 w ↦ read_one bytes (c.if-bytes-width.false ∙ c.width.ensures ∙ width_one g.row.Q w.if-this-le256.true) ∙ sym w.value-is
       | else-this-le256 w ↦ read_two bytes (c.if-bytes-width.false ∙ c.width.ensures ∙ width_two g.row.Q w.if-this-le256.false) ∙ sym w.value-is

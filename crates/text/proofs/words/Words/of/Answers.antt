@@ -4,4 +4,4 @@ use Rattle.text.proofs.words.Words.of.Goals as goal
 
 pub returns : goal.returns
 unfolding left
-returns c = ap words (c.split-at.ensures.front ∙ ap (λ n. take n c.args.line.now) c.run-end.ensures.count)
+returns c = ap words (c.split_at.ensures.front ∙ ap (λ n. take n c.args.line.now) c.run-end.ensures.count)

@@ -4,14 +4,14 @@ use Rattle.text.specs.Lines.{left}
 use Rattle.text.proofs.Sentences.{none_left, one_taken}
 use Rattle.text.proofs.words.Words.take.Goals as goal
 
-pub returns-then-is-empty : goal.returns-then-is-empty
+pub returns-then-is_empty : goal.returns-then-is_empty
 unfolding left
-returns-then-is-empty c =
-    let word = c.split-at-2.ensures in
-    none_left _ _ _ _ _ _ c.run-gap.ensures.count c.split-at.ensures.back c.run-length.ensures.count word.front word.back word.front-len (eqb-true _ 0 (sym c.if-is-empty.ensures))
+returns-then-is_empty c =
+    let word = c.split_at-2.ensures in
+    none_left _ _ _ _ _ _ c.run-gap.ensures.count c.split_at.ensures.back c.run-length.ensures.count word.front word.back word.front_len (eqb-true _ 0 (sym c.if-is_empty.ensures))
 
-pub returns-else-is-empty : goal.returns-else-is-empty
+pub returns-else-is_empty : goal.returns-else-is_empty
 unfolding left
-returns-else-is-empty c =
-    let word = c.split-at-2.ensures in
-    one_taken _ _ _ _ _ _ c.run-gap.ensures.count c.split-at.ensures.back c.run-length.ensures.count word.front word.back word.front-len (eqb-false _ 0 (sym c.if-is-empty.ensures))
+returns-else-is_empty c =
+    let word = c.split_at-2.ensures in
+    one_taken _ _ _ _ _ _ c.run-gap.ensures.count c.split_at.ensures.back c.run-length.ensures.count word.front word.back word.front_len (eqb-false _ 0 (sym c.if-is_empty.ensures))

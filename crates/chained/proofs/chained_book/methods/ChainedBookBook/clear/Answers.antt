@@ -5,21 +5,32 @@ use Rattle.chains.specs.Chains.{pairs, Sound}
 use Rattle.chains.proofs.Meanings.{cleared_chains}
 use Rattle.chained.specs.Layout.{table_of, image, later}
 use Rattle.chained.specs.Facts.{some_places, places_is}
-use Rattle.chained.proofs.Books.{after_room, after_table, after_sound, after_image, sound_facts, cleared_long}
+use Rattle.chained.proofs.Books.{after_room, after_table, after_sound, after_image, cleared_long}
 use Rattle.chained.proofs.chained_book.methods.ChainedBookBook.clear.Goals as goal
 
-pub invariant-of-self : goal.invariant-of-self
-invariant-of-self c =
+pub invariant_of-self : goal.invariant_of-self
+invariant_of-self c =
     let b = c.args.self.now in
     let cap = b.capacity in
     let m = c.replace-memory.result.now in
     let u = c.clear.new.records in
     let n = length (table_of cap m).entries in
     let is = c.clear.ensures.table in
-    let some = some_places cap (length b.memory.now) m b.room in (
-      after_room cap u.capacity m u.memory.now (cleared n) u.room u.bytes is (cleared_long n),
-      (u.bytes, sound_facts (table_of cap u.memory.now) (after_sound cap u.capacity m u.memory.now (cleared n) u.room u.bytes is (cleared_long n) (cleared_chains n some).sound)),
-    )
+    let some = some_places cap (length b.memory.now) m b.room in
+    let sound : Sound (table_of cap u.memory.now) = after_sound cap u.capacity m u.memory.now (cleared n) u.room u.bytes is (cleared_long n) (cleared_chains n some).sound in
+    record {
+      room = after_room cap u.capacity m u.memory.now (cleared n) u.room u.bytes is (cleared_long n);
+      bytes = u.bytes;
+      shaped = sound.0;
+      ended = sound.1;
+      within = sound.2;
+      placed = sound.3;
+      unfree = sound.4;
+      epochless = sound.5.0;
+      nonceless = sound.5.1;
+      counted = sound.6;
+      apart = sound.7;
+    }
 
 pub returns : goal.returns
 returns c =
@@ -38,5 +49,5 @@ returns c =
       image = after_image cap u.capacity m u.memory.now (cleared n) u.room u.bytes is (cleared_long n) (ap (λ (x : ℕ × List ℕ). x.1) beside)
           ∙ ap (λ k. image (cleared k) (later m cap)) (places_is cap m)
           ∙ ap (λ x. image (cleared cap) (later x.now cap)) from;
-      lender = ap (λ (x : ℕ × List ℕ). x.0) beside ∙ ap (λ x. x.name) from;
+      lender = ap (λ (x : ℕ × List ℕ). x.0) beside ∙ ap (λ x. x.ghost_name) from;
     }

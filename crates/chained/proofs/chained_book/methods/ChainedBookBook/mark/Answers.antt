@@ -6,11 +6,11 @@ use Rattle.chained.specs.Facts.{room_fits, places_is}
 use Rattle.chained.specs.Laws.{marked_image}
 use Rattle.chained.specs.Books.{sound_in}
 use Rattle.chained.proofs.Images.{one_image}
-use Rattle.chained.proofs.Books.{after_room, after_table, after_sound, after_image, sound_facts, mark_sound, mark_means, mark_image}
+use Rattle.chained.proofs.Books.{after_room, after_table, after_sound, after_image, mark_sound, mark_means, mark_image}
 use Rattle.chained.proofs.chained_book.methods.ChainedBookBook.mark.Goals as goal
 
-pub invariant-of-self : goal.invariant-of-self
-invariant-of-self c =
+pub invariant_of-self : goal.invariant_of-self
+invariant_of-self c =
     let b = c.args.self.now in
     let cap = b.capacity in
     let p : Pair = (c.args.epoch, c.args.nonce.now) in
@@ -19,10 +19,21 @@ invariant-of-self c =
     let t = table_of cap m in
     let v = table_of u.capacity u.memory.now in
     let s : Sound t = subst (λ x. Sound (table_of cap x.now)) (sym c.replace-memory.ensures.value) (sound_in b) in
-    let d = mark_sound t p c.mark-marked.result v s c.told-nonce c.mark-marked.ensures.table in (
-      after_room cap u.capacity m u.memory.now v u.room u.bytes refl d.1,
-      (u.bytes, sound_facts (table_of cap u.memory.now) (after_sound cap u.capacity m u.memory.now v u.room u.bytes refl d.1 d.0)),
-    )
+    let d = mark_sound t p c.mark-marked.result v s c.told-nonce c.mark-marked.ensures.table in
+    let sound : Sound (table_of cap u.memory.now) = after_sound cap u.capacity m u.memory.now v u.room u.bytes refl d.1 d.0 in
+    record {
+      room = after_room cap u.capacity m u.memory.now v u.room u.bytes refl d.1;
+      bytes = u.bytes;
+      shaped = sound.0;
+      ended = sound.1;
+      within = sound.2;
+      placed = sound.3;
+      unfree = sound.4;
+      epochless = sound.5.0;
+      nonceless = sound.5.1;
+      counted = sound.6;
+      apart = sound.7;
+    }
 
 pub returns : goal.returns
 returns c =
@@ -48,5 +59,5 @@ returns c =
       image = mark_image cap m u.memory.now p r v (one_image cap m (room_fits (length m) cap room).2 bytes)
           (after_image cap u.capacity m u.memory.now v u.room u.bytes refl d.1 (ap (λ (x : ℕ × List ℕ). x.1) beside)) marks
           ∙ ap (λ x. marked_image r cap x.now p) from;
-      lender = ap (λ (x : ℕ × List ℕ). x.0) beside ∙ ap (λ x. x.name) from;
+      lender = ap (λ (x : ℕ × List ℕ). x.0) beside ∙ ap (λ x. x.ghost_name) from;
     }

@@ -9,7 +9,7 @@ pub returns : goal.returns
 returns c =
     let e = c.args.epoch in
     let cap = c.args.self.now.capacity in
-    let said = c.drop-epoch-dropped.ensures in
+    let said = c.drop_epoch-dropped.ensures in
     let lent = ap (λ x. x.now) c.replace-memory.ensures.value in
     record {
       meaning = (
@@ -17,5 +17,5 @@ returns c =
         said.answer ∙ ap (λ m. length (pairs_of m)) lent,
       );
       image = said.image ∙ ap (λ m. image (others e (pairs_of m)) cap (later m cap)) lent;
-      lender = ap (λ x. x.name) c.replace-memory.ensures.value;
+      lender = ap (λ x. x.ghost_name) c.replace-memory.ensures.value;
     }

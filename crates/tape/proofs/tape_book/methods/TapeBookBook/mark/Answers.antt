@@ -17,5 +17,5 @@ returns c =
           (said.pairs ∙ ap (λ m. marked_pairs r (pairs_of m) (c.args.epoch, c.args.nonce.now)) lent)
           refl;
       image = said.image ∙ ap (λ m. marked_image r m cap (c.args.epoch, c.args.nonce.now)) lent;
-      lender = ap (λ x. x.name) c.replace-memory.ensures.value;
+      lender = ap (λ x. x.ghost_name) c.replace-memory.ensures.value;
     }
