@@ -2,13 +2,13 @@ use Rattle.std.proofs.Common.{rules}
 use Rattle.commands.specs.Calls.{based}
 use Rattle.commands.proofs.base.Goals as goal
 
-pub returns-then-scalar-scalar-width : goal.returns-then-scalar-scalar-width
+pub returns-then-scalar-scalar_width : goal.returns-then-scalar-scalar_width
 unfolding based
-returns-then-scalar-scalar-width g c = search rules
+returns-then-scalar-scalar_width g c = search rules
 
-pub returns-in-err-s : goal.returns-in-err-s
+pub returns-in_err-s : goal.returns-in_err-s
 unfolding based
-returns-in-err-s g c = search rules
+returns-in_err-s g c = search rules
 
 pub returns : goal.returns
 unfolding based

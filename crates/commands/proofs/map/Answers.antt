@@ -2,9 +2,9 @@ use Rattle.std.proofs.Common.{rules}
 use Rattle.commands.specs.Calls.{mapped}
 use Rattle.commands.proofs.map.Goals as goal
 
-pub returns-in-default : goal.returns-in-default
+pub returns-in_default : goal.returns-in_default
 unfolding mapped
-returns-in-default g c = search rules
+returns-in_default g c = search rules
 
 pub returns : goal.returns
 unfolding mapped

@@ -6,4 +6,4 @@ pub returns : goal.returns
 returns g c =
     let same : c.in-Ok.nonce.now ≡ c.args.nonce.now = search rules in
     let whole : length c.args.nonce.now ≡ 32 = search rules in
-    (whole, subst (λ n. Marked (g.B.Book.meaning c.args.book.now) (c.args.epoch, n) (Ok tt) (g.B.Book.meaning c.mark.new.self)) same c.in-ok-mark.ensures)
+    (whole, subst (λ n. Marked (g.B.Book.meaning c.args.book.now) (c.args.epoch, n) (Ok tt) (g.B.Book.meaning c.mark.new.self)) same c.in_ok-mark.ensures)

@@ -7,16 +7,16 @@ use Rattle.client.specs.Blinding.{blind_codes}
 use Rattle.client.proofs.Blinds.{onward, finished}
 use Rattle.client.proofs.items.blind_items.Goals as goal
 
-pub overflow-add-next : goal.overflow-add-next
-overflow-add-next g c =
-    let e = c.scalar-width-width.ensures in
+pub overflow_add-next : goal.overflow_add-next
+overflow_add-next g c =
+    let e = c.scalar_width-width.ensures in
     let inside = item_within c.loop-i.at c.loop-i.i g.G.Group.model.scalars.width c.args.count (length c.args.blinds.now)
     c.loop-i-test.true c.loop-i.invariant.0 c.requires.blinds in
     search rules
 
-pub slice-bounds-open-end : goal.slice-bounds-open-end
-slice-bounds-open-end g c =
-    let e = c.scalar-width-width.ensures in
+pub slice_bounds-open-end : goal.slice_bounds-open-end
+slice_bounds-open-end g c =
+    let e = c.scalar_width-width.ensures in
     let inside = item_within c.loop-i.at c.loop-i.i g.G.Group.model.scalars.width c.args.count (length c.args.blinds.now)
     c.loop-i-test.true c.loop-i.invariant.0 c.requires.blinds in
     search rules
@@ -24,8 +24,8 @@ slice-bounds-open-end g c =
 pub put-end-requires : goal.put-end-requires
 put-end-requires g c =
     let m = g.G.Group.model in
-    let wide : length c.as-slice.result.now ≡ m.element_width =
-    ap length (c.as-slice.ensures ∙ c.encode.ensures) ∙ m.coded c.blind-sent.result in
+    let wide : length c.as_slice.result.now ≡ m.element_width =
+    ap length (c.as_slice.ensures ∙ c.encode.ensures) ∙ m.coded c.blind-sent.result in
     let few = c.requires.few in
     let fits = m.element_fits in
     let place = c.loop-i.invariant.1 in
@@ -37,31 +37,31 @@ pub loop-i-preserved : goal.loop-i-preserved
 loop-i-preserved g c =
     let m = g.G.Group.model in
     let i = c.loop-i.i in
-    let coded : c.as-slice.result.now ≡ m.code c.blind-sent.result = c.as-slice.ensures ∙ c.encode.ensures in
-    let wide : length c.as-slice.result.now ≡ m.element_width = ap length coded ∙ m.coded c.blind-sent.result in
+    let coded : c.as_slice.result.now ≡ m.code c.blind-sent.result = c.as_slice.ensures ∙ c.encode.ensures in
+    let wide : length c.as_slice.result.now ≡ m.element_width = ap length coded ∙ m.coded c.blind-sent.result in
     let stayed : length c.put-end.new.bytes ≡ length c.loop-i.codes = c.put-end.auto.bytes in (
-      next_place c.loop-i.at i m.scalars.width c.scalar-width-width.result c.loop-i.invariant.0 c.scalar-width-width.ensures,
-      c.put-end.ensures.ends ∙ next_place c.loop-i.end i m.element_width (length c.as-slice.result.now) c.loop-i.invariant.1 wide,
+      next_place c.loop-i.at i m.scalars.width c.scalar_width-width.result c.loop-i.invariant.0 c.scalar_width-width.ensures,
+      c.put-end.ensures.ends ∙ next_place c.loop-i.end i m.element_width (length c.as_slice.result.now) c.loop-i.invariant.1 wide,
       stayed ∙ c.loop-i.invariant.2,
       ap (blind_codes m c.args.epoch c.args.pk (i + 1) (c.args.count - (i + 1)) (drop (64 * (i + 1)) c.args.seeds.now)
-          (drop (c.loop-i.at + c.scalar-width-width.result) c.args.blinds.now))
+          (drop (c.loop-i.at + c.scalar_width-width.result) c.args.blinds.now))
           (c.put-end.ensures.front ∙ ap (λ (l : List ℕ). take c.loop-i.end c.loop-i.codes ++ l) (coded ∙ ap m.code c.blind-sent.ensures))
           ∙ onward m c.args.epoch c.args.pk i c.args.count c.args.seeds.now c.args.blinds.now (take c.loop-i.end c.loop-i.codes)
-          c.loop-i.at c.scalar-width-width.result (64 * i + 64 - 64 * i) (c.loop-i.at + c.scalar-width-width.result - c.loop-i.at)
-          c.input-input.result c.open.result (Ok c.in-ok-r.r) c.loop-i-test.true c.scalar-width-width.ensures (omega arith) (omega arith)
-          c.input-input.ensures c.open.ensures c.in-ok-r.ensures
+          c.loop-i.at c.scalar_width-width.result (64 * i + 64 - 64 * i) (c.loop-i.at + c.scalar_width-width.result - c.loop-i.at)
+          c.input-input.result c.open.result (Ok c.in_ok-r.r) c.loop-i-test.true c.scalar_width-width.ensures (omega arith) (omega arith)
+          c.input-input.ensures c.open.ensures c.in_ok-r.ensures
           ∙ c.loop-i.invariant.3,
     )
 
-pub returns-in-err-r : goal.returns-in-err-r
-returns-in-err-r g c =
+pub returns-in_err-r : goal.returns-in_err-r
+returns-in_err-r g c =
     let m = g.G.Group.model in
     let i = c.loop-i.i in
-    let p = err_from_is_err_and c.from-residual.result c.from-residual.ensures.1 in
+    let p = err_from_is_err_and c.from_residual.result c.from_residual.ensures.1 in
     let stops = onward m c.args.epoch c.args.pk i c.args.count c.args.seeds.now c.args.blinds.now (take c.loop-i.end c.loop-i.codes)
-    c.loop-i.at c.scalar-width-width.result (64 * i + 64 - 64 * i) (c.loop-i.at + c.scalar-width-width.result - c.loop-i.at)
-    c.input-input.result c.open.result (Err c.in-err-r.field-0.0) c.loop-i-test.true c.scalar-width-width.ensures (omega arith) (omega arith)
-    c.input-input.ensures c.open.ensures c.in-err-r.ensures
+    c.loop-i.at c.scalar_width-width.result (64 * i + 64 - 64 * i) (c.loop-i.at + c.scalar_width-width.result - c.loop-i.at)
+    c.input-input.result c.open.result (Err c.in_err-r.field-0.0) c.loop-i-test.true c.scalar_width-width.ensures (omega arith) (omega arith)
+    c.input-input.ensures c.open.ensures c.in_err-r.ensures
     ∙ c.loop-i.invariant.3 in
     rw (p.1, p.2) (record { codes = sym stops; end = tt })
 

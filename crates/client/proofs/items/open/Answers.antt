@@ -2,13 +2,13 @@ use Rattle.std.proofs.Common.{rules}
 use Rattle.client.specs.Batches.{opened}
 use Rattle.client.proofs.items.open.Goals as goal
 
-pub returns-in-err-r : goal.returns-in-err-r
+pub returns-in_err-r : goal.returns-in_err-r
 unfolding opened
-returns-in-err-r g c = search rules
+returns-in_err-r g c = search rules
 
-pub returns-then-is-null : goal.returns-then-is-null
+pub returns-then-is_null : goal.returns-then-is_null
 unfolding opened
-returns-then-is-null g c = search rules
+returns-then-is_null g c = search rules
 
 pub returns : goal.returns
 unfolding opened

@@ -10,9 +10,9 @@ pub returns-then-epoch-eq0 : goal.returns-then-epoch-eq0
 unfolding vetted
 returns-then-epoch-eq0 g c = search rules
 
-pub returns-then-pk-element-width : goal.returns-then-pk-element-width
+pub returns-then-pk-element_width : goal.returns-then-pk-element_width
 unfolding vetted
-returns-then-pk-element-width g c = search rules
+returns-then-pk-element_width g c = search rules
 
 pub returns-then-seeds-ne0 : goal.returns-then-seeds-ne0
 unfolding vetted
@@ -30,13 +30,13 @@ pub returns-then-blinds-n : goal.returns-then-blinds-n
 unfolding vetted
 returns-then-blinds-n g c = search rules
 
-pub returns-in-err-pk : goal.returns-in-err-pk
+pub returns-in_err-pk : goal.returns-in_err-pk
 unfolding vetted
-returns-in-err-pk g c = search rules
+returns-in_err-pk g c = search rules
 
-pub returns-then-outlet-request-len : goal.returns-then-outlet-request-len
+pub returns-then-outlet-request_len : goal.returns-then-outlet-request_len
 unfolding vetted
-returns-then-outlet-request-len g c = search rules
+returns-then-outlet-request_len g c = search rules
 
 pub returns : goal.returns
 unfolding vetted

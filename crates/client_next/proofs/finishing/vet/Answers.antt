@@ -8,9 +8,9 @@ pub returns-then-scratch-lt-ENOUGH : goal.returns-then-scratch-lt-ENOUGH
 unfolding finish_vetted
 returns-then-scratch-lt-ENOUGH g c = search rules
 
-pub returns-then-pk-element-width : goal.returns-then-pk-element-width
+pub returns-then-pk-element_width : goal.returns-then-pk-element_width
 unfolding finish_vetted
-returns-then-pk-element-width g c = search rules
+returns-then-pk-element_width g c = search rules
 
 pub returns-then-seeds-count : goal.returns-then-seeds-count
 unfolding finish_vetted
@@ -20,13 +20,13 @@ pub returns-then-blinds-count : goal.returns-then-blinds-count
 unfolding finish_vetted
 returns-then-blinds-count g c = search rules
 
-pub returns-in-err-reply : goal.returns-in-err-reply
+pub returns-in_err-reply : goal.returns-in_err-reply
 unfolding finish_vetted
-returns-in-err-reply g c = search rules
+returns-in_err-reply g c = search rules
 
-pub returns-in-err-pk : goal.returns-in-err-pk
+pub returns-in_err-pk : goal.returns-in_err-pk
 unfolding finish_vetted
-returns-in-err-pk g c = search rules
+returns-in_err-pk g c = search rules
 
 pub returns-then-outlet-count : goal.returns-then-outlet-count
 unfolding finish_vetted
@@ -35,8 +35,8 @@ returns-then-outlet-count g c = search rules
 pub returns : goal.returns
 unfolding finish_vetted
 returns g c =
-    let read = reply_known g.G.Group.model c.args.pending.now.count c.args.pending.now.epoch c.args.reply.now (answers c.in-ok-reply.reply)
-    (sym c.in-ok-reply.ensures) in
+    let read = reply_known g.G.Group.model c.args.pending.now.count c.args.pending.now.epoch c.args.reply.now (answers c.in_ok-reply.reply)
+    (sym c.in_ok-reply.ensures) in
     record {
       answer = search rules;
       known = record {

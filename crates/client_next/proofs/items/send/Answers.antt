@@ -3,13 +3,13 @@ use Rattle.voprf.specs.Blinding.{blinded, answered}
 use Rattle.client_next.specs.Batches.{sent}
 use Rattle.client_next.proofs.items.send.Goals as goal
 
-pub returns-in-err-r : goal.returns-in-err-r
+pub returns-in_err-r : goal.returns-in_err-r
 unfolding sent
-returns-in-err-r g c = search rules
+returns-in_err-r g c = search rules
 
-pub returns-then-is-null : goal.returns-then-is-null
+pub returns-then-is_null : goal.returns-then-is_null
 unfolding sent
-returns-then-is-null g c = search rules
+returns-then-is_null g c = search rules
 
 pub returns : goal.returns
 unfolding sent blinded answered

@@ -2,13 +2,13 @@ use Rattle.std.proofs.Common.{rules}
 use Rattle.client_next.specs.Finishing.{sent_again}
 use Rattle.client_next.proofs.passes.resend.Goals as goal
 
-pub returns-in-err-sent : goal.returns-in-err-sent
+pub returns-in_err-sent : goal.returns-in_err-sent
 unfolding sent_again
-returns-in-err-sent g c = search rules
+returns-in_err-sent g c = search rules
 
-pub returns-in-err-element : goal.returns-in-err-element
+pub returns-in_err-element : goal.returns-in_err-element
 unfolding sent_again
-returns-in-err-element g c = search rules
+returns-in_err-element g c = search rules
 
 pub returns : goal.returns
 unfolding sent_again

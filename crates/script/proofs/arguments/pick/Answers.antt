@@ -7,16 +7,16 @@ use Rattle.script.specs.declared.errors.LineFault.TheVariants.{NoToken}
 use Rattle.text.proofs.Numerals.{numerals_are_decimals}
 use Rattle.script.proofs.Arguing.{after_dot}
 use Rattle.script.proofs.arguments.pick.Goals as goal
-use Rattle.script.proofs.arguments.pick.Goals.{Else-is-empty, In-Ok}
+use Rattle.script.proofs.arguments.pick.Goals.{Else-is_empty, In-Ok}
 
-some : (c : Else-is-empty) → length c.args.rest.now ≡ 0 → ⊥
-some c = eqb-false _ 0 (sym c.if-is-empty.ensures)
+some : (c : Else-is_empty) → length c.args.rest.now ≡ 0 → ⊥
+some c = eqb-false _ 0 (sym c.if-is_empty.ensures)
 
 -- what is kept, with a dot and a number after its name
 told : (c : In-Ok) → picked c.args.at c.args.kept.now c.args.rest.now ≡ numbered c.args.at c.args.kept.now (Ok c.in-Ok.number)
 told c =
     let read_as = ap (numeral _) (sym (take_rest c.args.rest.now 1)) ∙ sym c.in-Ok.ensures in
-    after_dot c.args.at c.args.kept.now c.args.rest.now (eqb-false _ 0 (sym c.if-is-empty.ensures)) _ (omega arith) read_as
+    after_dot c.args.at c.args.kept.now c.args.rest.now (eqb-false _ 0 (sym c.if-is_empty.ensures)) _ (omega arith) read_as
 
 pub token-requires : goal.token-requires
 token-requires c = (omega arith, (numerals_are_decimals.only _ c.in-Ok.number _ (omega arith) (sym c.in-Ok.ensures)).0)
@@ -34,5 +34,5 @@ returns-else-number-eq0 c =
 pub returns-in-Err : goal.returns-in-Err
 returns-in-Err c =
     let read_as = ap (numeral _) (sym (take_rest c.args.rest.now 1)) ∙ sym c.read.ensures ∙ c.in-Err.is in
-    let is = after_dot c.args.at c.args.kept.now c.args.rest.now (some (goal.at.returns-in-Err c).Else-is-empty) _ (omega arith) read_as in
+    let is = after_dot c.args.at c.args.kept.now c.args.rest.now (some (goal.at.returns-in-Err c).Else-is_empty) _ (omega arith) read_as in
     subst (λ p. Picks p (Err (NoToken c.args.at))) (sym is) refl

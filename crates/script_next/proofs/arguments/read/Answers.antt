@@ -12,7 +12,7 @@ use Rattle.script_next.specs.Kept.{holds}
 use Rattle.script_next.specs.declared.errors.LineFault.{LineFault}
 use Rattle.script_next.proofs.Arguing.{is_nothing, is_recalled, is_read}
 use Rattle.script_next.proofs.arguments.read.Goals as goal
-use Rattle.script_next.proofs.arguments.read.Goals.{Joined-word-lt1, Else-eq, then-word-lt1, else-word-lt1+in-default·}
+use Rattle.script_next.proofs.arguments.read.Goals.{Joined-word-lt1, Else-eq, then-word-lt1, else-word-lt1+in_default-1}
 use Rattle.std.proofs.lemmas.Bool.Decides.{Decides-eqb}
 
 other : (c : Else-eq) → c.args.word.now ≡ codes "-" → ⊥
@@ -21,7 +21,7 @@ other c e = both_ways _ c.if-eq.false ((slice_eq-Decides Decides-eqb _ _ _ c.eq.
 no_dollar : (c : Joined-word-lt1) → get_or c.args.word.now 0 0 ≡ 36 → ⊥
 no_dollar c e = elim c.if-word-lt1.branch [
   | then-word-lt1 w ↦ omega (arith, get_or_past c.args.word.now 0 0 (omega (arith, ltb-true)))
-  | else-word-lt1+in-default· w ↦ omega arith
+  | else-word-lt1+in_default-1 w ↦ omega arith
 ]
 
 as_read : (c : Joined-word-lt1) → argument (holds c.args.names.now) c.args.at c.args.word.now ≡ as_bytes c.args.at (reading c.args.word.now)

@@ -4,6 +4,6 @@ use Rattle.station.proofs.Station.redeem.Goals as goal
 
 pub returns : goal.returns
 returns g c =
-    let pair = c.in-ok-epoch.ensures in
-    let marked = c.in-ok-mark.ensures in
+    let pair = c.in_ok-epoch.ensures in
+    let marked = c.in_ok-mark.ensures in
     record { answer = search (rules, redeems); untouched = asked _ _ _ _ pair; scratch = search rules; ring = search rules }

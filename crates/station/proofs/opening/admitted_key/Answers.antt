@@ -6,21 +6,21 @@ pub returns-then-scratch-lt-ENOUGH : goal.returns-then-scratch-lt-ENOUGH
 unfolding opening
 returns-then-scratch-lt-ENOUGH g c = search rules
 
-pub returns-then-key-scalar-width : goal.returns-then-key-scalar-width
+pub returns-then-key-scalar_width : goal.returns-then-key-scalar_width
 unfolding opening
-returns-then-key-scalar-width g c = search rules
+returns-then-key-scalar_width g c = search rules
 
-pub returns-in-err-key : goal.returns-in-err-key
+pub returns-in_err-key : goal.returns-in_err-key
 unfolding opening
-returns-in-err-key g c = search rules
+returns-in_err-key g c = search rules
 
-pub returns-in-err-admit : goal.returns-in-err-admit
+pub returns-in_err-admit : goal.returns-in_err-admit
 unfolding opening
-returns-in-err-admit g c = search rules
+returns-in_err-admit g c = search rules
 
-pub returns-then-outlet-element-width : goal.returns-then-outlet-element-width
+pub returns-then-outlet-element_width : goal.returns-then-outlet-element_width
 unfolding opening
-returns-then-outlet-element-width g c = search rules
+returns-then-outlet-element_width g c = search rules
 
 pub returns : goal.returns
 unfolding opening

@@ -7,9 +7,9 @@ pub returns-then-not-same : goal.returns-then-not-same
 unfolding authentic by_key answered
 returns-then-not-same g c = search rules
 
-pub returns-then-is-null : goal.returns-then-is-null
+pub returns-then-is_null : goal.returns-then-is_null
 unfolding authentic by_key answered
-returns-then-is-null g c = search rules
+returns-then-is_null g c = search rules
 
 pub returns-then-not-same-2 : goal.returns-then-not-same-2
 unfolding authentic by_key answered

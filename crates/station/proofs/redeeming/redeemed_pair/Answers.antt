@@ -9,21 +9,21 @@ pub returns-then-bytes-lt-ENOUGH : goal.returns-then-bytes-lt-ENOUGH
 unfolding redeemable
 returns-then-bytes-lt-ENOUGH g c = search rules
 
-pub returns-in-err-token : goal.returns-in-err-token
+pub returns-in_err-token : goal.returns-in_err-token
 unfolding redeemable
-returns-in-err-token g c = search rules
+returns-in_err-token g c = search rules
 
 pub returns-then-token-kind : goal.returns-then-token-kind
 unfolding redeemable
 returns-then-token-kind g c = search rules
 
-pub returns-in-err-key : goal.returns-in-err-key
+pub returns-in_err-key : goal.returns-in_err-key
 unfolding redeemable
-returns-in-err-key g c = search rules
+returns-in_err-key g c = search rules
 
-pub returns-in-err-authentic : goal.returns-in-err-authentic
+pub returns-in_err-authentic : goal.returns-in_err-authentic
 unfolding redeemable
-returns-in-err-authentic g c = search rules
+returns-in_err-authentic g c = search rules
 
 pub returns : goal.returns
 unfolding redeemable
@@ -32,8 +32,8 @@ returns g c = search rules
 pub authentic-requires : goal.authentic-requires
 authentic-requires g c =
     let bytes = c.args.token.now in
-    let long = token_long bytes (parts c.in-ok-token.token) c.in-ok-token.ensures.fields in
+    let long = token_long bytes (parts c.in_ok-token.token) c.in_ok-token.ensures.fields in
     record {
       room = search rules;
-      input = ap length c.in-ok-token.ensures.input ∙ length-take-le 100 bytes (omega arith);
+      input = ap length c.in_ok-token.ensures.input ∙ length-take-le 100 bytes (omega arith);
     }

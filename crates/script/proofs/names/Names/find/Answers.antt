@@ -5,7 +5,7 @@ use Rattle.script.proofs.names.Names.find.Goals as goal
 
 pub returns-in-Some : goal.returns-in-Some
 unfolding holds
-returns-in-Some c = ap Some c.as-slice.ensures.value ∙ sym (found_at _ _ _ _ c.in-Some.ensures c.index.ensures)
+returns-in-Some c = ap Some c.as_slice.ensures.value ∙ sym (found_at _ _ _ _ c.in-Some.ensures c.index.ensures)
 
 pub returns-in-None : goal.returns-in-None
 unfolding holds

@@ -20,12 +20,12 @@ step w i b h e =
 
 pub returns-then-eq : goal.returns-then-eq
 returns-then-eq c =
-    let is = same _ _ (sym c.word.ensures ∙ sym c.as-bytes.ensures.value ∙ (slice_eq-Decides Decides-eqb _ _ _ c.eq.ensures).0 c.if-eq.true) in
+    let is = same _ _ (sym c.word.ensures ∙ sym c.as_bytes.ensures.value ∙ (slice_eq-Decides Decides-eqb _ _ _ c.eq.ensures).0 c.if-eq.true) in
     sym (step c.args.word.now c.loop-command.command-index true c.loop-command-test.true is) ∙ c.loop-command.invariant
 
 pub loop-command-preserved : goal.loop-command-preserved
 loop-command-preserved c =
-    let other = differ _ _ (λ h. both_ways _ c.if-eq.false ((slice_eq-Decides Decides-eqb _ _ _ c.eq.ensures).1 (c.as-bytes.ensures.value ∙ c.word.ensures ∙ h))) in
+    let other = differ _ _ (λ h. both_ways _ c.if-eq.false ((slice_eq-Decides Decides-eqb _ _ _ c.eq.ensures).1 (c.as_bytes.ensures.value ∙ c.word.ensures ∙ h))) in
     sym (step c.args.word.now c.loop-command.command-index false c.loop-command-test.true other) ∙ c.loop-command.invariant
 
 pub returns : goal.returns

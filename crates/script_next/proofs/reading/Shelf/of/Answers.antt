@@ -23,9 +23,9 @@ returns-then-eq c = sym (first _ ((slice_eq-Decides Decides-eqb _ _ _ c.eq.ensur
 pub returns-then-eq-2 : goal.returns-then-eq-2
 returns-then-eq-2 c =
     sym (past _ (λ h. both_ways _ c.if-eq.false ((slice_eq-Decides Decides-eqb _ _ _ c.eq.ensures).1 h))
-    ∙ ap (λ b. cond b (Some Tape) None) (same _ _ ((slice_eq-Decides Decides-eqb _ _ _ c.eq-2.ensures).0 c.if-eq-2.true)))
+    ∙ ap (λ b. cond b (Some Tape) None) (same c.args.word.now (codes "tape") ((slice_eq-Decides Decides-eqb _ _ _ c.eq-2.ensures).0 c.if-eq-2.true)))
 
 pub returns : goal.returns
 returns c =
     sym (past _ (λ h. both_ways _ c.if-eq.false ((slice_eq-Decides Decides-eqb _ _ _ c.eq.ensures).1 h))
-    ∙ ap (λ b. cond b (Some Tape) None) (differ _ _ (λ h. both_ways _ c.if-eq-2.false ((slice_eq-Decides Decides-eqb _ _ _ c.eq-2.ensures).1 h))))
+    ∙ ap (λ b. cond b (Some Tape) None) (differ c.args.word.now (codes "tape") (λ h. both_ways _ c.if-eq-2.false ((slice_eq-Decides Decides-eqb _ _ _ c.eq-2.ensures).1 h))))
