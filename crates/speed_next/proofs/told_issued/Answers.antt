@@ -7,12 +7,12 @@ pub returns : goal.returns
 returns c =
     let out = c.args.out.now in
     let reply = c.args.issued.reply in
-    let copied = c.copy-from-slice.ensures.after in
+    let copied = c.copy_from_slice.ensures.after in
     record {
       most = omega arith;
       short = λ h. absurd (omega arith);
       kept = λ h. absurd (omega arith);
-      rest = drop-append-le 137 c.copy-from-slice.new.self (drop 137 out) (omega (arith, ap length copied)) ∙ ap (λ (l : List ℕ). l ++ drop 137 out) (drop_all 137 c.copy-from-slice.new.self (omega (arith, ap length copied)));
+      rest = drop-append-le 137 c.copy_from_slice.new.self (drop 137 out) (omega (arith, ap length copied)) ∙ ap (λ (l : List ℕ). l ++ drop 137 out) (drop_all 137 c.copy_from_slice.new.self (omega (arith, ap length copied)));
       out =
           ap (λ (l : List ℕ). l ++ drop 137 out) copied
           ∙ sym (cond-false (ltb (length out) 137) out (reply ++ drop 137 out) (le-ltb (length out) 137 (omega arith)));

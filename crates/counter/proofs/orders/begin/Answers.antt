@@ -7,6 +7,6 @@ pub returns-in-Ok : goal.returns-in-Ok
 returns-in-Ok g c =
     let told = c.in-Ok.ensures in
     record {
-      answer = begins _ c.args.epoch _ c.in-Ok.batch _ told.answer (λ request e. c.request-len.ensures ∙ sym (request_long g.G.Group.model _ _ _ _ _ request _ e));
+      answer = begins _ c.args.epoch _ c.in-Ok.batch _ told.answer (λ request e. c.request_len.ensures ∙ sym (request_long g.G.Group.model _ _ _ _ _ request _ e));
       outlet = told.outlet;
     }

@@ -3,7 +3,7 @@ use Rattle.speed_next.proofs.Rounds.{round_more}
 use Rattle.speed_next.proofs.LookUpsWork.on.Goals as goal
 
 pub loop-preserved : goal.loop-preserved
-loop-preserved g c = round_more c.loop.counter (length c.args.self.sought.now / 32) c.loop.found c.found-in.result _ c.loop.invariant c.found-in.ensures (omega (arith, c.saturating-add-found.ensures))
+loop-preserved g c = round_more c.loop.counter (length c.args.self.sought.now / 32) c.loop.found c.found_in.result _ c.loop.invariant c.found_in.ensures (omega (arith, c.saturating_add-found.ensures))
 
 pub returns : goal.returns
 returns g c =

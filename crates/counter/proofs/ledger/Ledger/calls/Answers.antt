@@ -9,7 +9,7 @@ loop-i-preserved c =
     let es = vec_items c.args.self.now.entries in
     let i = c.loop-i.i in
     let within : i < length es = omega (arith, c.args.self.now.entries.ok.0) in
-    ap (map seen) c.in-ok-push.ensures.items
+    ap (map seen) c.in_ok-push.ensures.items
     ∙ map-append seen (vec_items c.loop-i.calls) (c.call.result ∷ [])
     ∙ ap (λ (l : List Lent). l ++ seen c.call.result ∷ []) c.loop-i.invariant
     ∙ ap (λ (x : Lent). map lent_of (take i es) ++ x ∷ []) (c.call.ensures ∙ ap lent_of c.index.ensures)

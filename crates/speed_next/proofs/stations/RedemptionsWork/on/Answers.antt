@@ -4,9 +4,9 @@ use Rattle.speed_next.proofs.stations.RedemptionsWork.on.Goals as goal
 
 pub loop-preserved : goal.loop-preserved
 loop-preserved g c = (
-  c.accepted-of.auto.scratch ∙ c.loop.invariant.0,
-  round_more c.loop.counter (length c.args.self.tokens.now / 132) c.loop.accepted c.accepted-of.result _ c.loop.invariant.1 c.accepted-of.ensures
-      (omega (arith, c.saturating-add-accepted.ensures)),
+  c.accepted_of.auto.scratch ∙ c.loop.invariant.0,
+  round_more c.loop.counter (length c.args.self.tokens.now / 132) c.loop.accepted c.accepted_of.result _ c.loop.invariant.1 c.accepted_of.ensures
+      (omega (arith, c.saturating_add-accepted.ensures)),
 )
 
 pub returns : goal.returns
