@@ -14,7 +14,7 @@
 use chained::ChainedBook;
 use client_next::Pending;
 use counter::Counter;
-use desk::{Desk, Empty};
+use desk_next::{Desk, Empty};
 use faults::{Fault, Refusal, WireFault};
 use script_next::answers::{Answer, Report};
 use script_next::commands::Command;

@@ -27,7 +27,7 @@ mod tests {
         let capacity = tape::capacity_in(39)?;
         let mut book = TapeBook::over(&mut memory, capacity);
         book.mark(0x0102, &[7; 32])?;
-        assert_eq!(rt; book.memory(), &TAPE);
+        assert_eq!(rt; book.memory(), TAPE.as_slice());
         Ok(())
     }
 
@@ -76,7 +76,7 @@ mod tests {
         book.mark(0x0103, &[7; 32])?;
         book.mark(0x0102, &third)?;
         assert_eq!(rt; book.drop_epoch(0x0103), 1);
-        assert_eq!(rt; book.memory(), &CHAINED);
+        assert_eq!(rt; book.memory(), CHAINED.as_slice());
         Ok(())
     }
 

@@ -2,14 +2,14 @@
 use Rattle.std.proofs.Common.{◌≡◌, ℕ, ◌+◌, ◌-◌, ◌<◌, ◌≤◌, not, eqb, ltb, List, length, Ok, Err, Result, sym, refl, ap, ◌∙◌, subst, inl, inr, ⊎_elim, arith}
 use Rattle.std.proofs.lemmas.List.FromFn.{length-map-range_with_len}
 use Rattle.std.proofs.lemmas.List.Filters.{length-filter_both}
-use Rattle.book.specs.Meaning.{Pair, Meaning, Apart, Marked}
+use Rattle.book.specs.Meaning.{Pair, Meaning, Marked}
 use Rattle.book.proofs.Facts.{becomes_same}
 use Rattle.faults.specs.declared.BookFault.{BookFault}
 use Rattle.faults.specs.declared.BookFault.TheVariants.{Spent, Full}
 use Rattle.std.specs.List.{ContainsAt as Has}
 use Rattle.chains.specs.Calls.{Marks}
 use Rattle.chains.specs.Tables.{Table, cleared, marked, dropped}
-use Rattle.chains.specs.Chains.{pairs, ShapedTable, Ended, Within, Placed, Unfree, Epochless, Nonceless, Counted, Sound}
+use Rattle.chains.specs.Chains.{pairs, Sound}
 use Rattle.chains.specs.Meant.{length_pairs}
 use Rattle.chains.proofs.Meanings.{found, marked_chains, dropped_chains}
 use Rattle.std.proofs.lemmas.Bool.{cases_lt, lt-ltb, le-ltb, cond-true, cond-false}

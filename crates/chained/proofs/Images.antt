@@ -1,9 +1,8 @@
 -- Memory is the image of its table. Assumes nothing.
-use Rattle.std.proofs.Common.{◌≡◌, ℕ, zero, suc, ◌+◌, ◌-◌, ◌*◌, ◌/◌, ◌%◌, ◌<◌, ◌≤◌, List, [], ◌∷◌, ◌++◌, map, length, get_or, take, drop, sym, refl, ap, ◌∙◌, subst, arith}
+use Rattle.std.proofs.Common.{◌≡◌, ℕ, zero, suc, ◌+◌, ◌*◌, ◌/◌, ◌%◌, ◌<◌, ◌≤◌, List, [], ◌∷◌, ◌++◌, map, length, get_or, take, drop, sym, refl, ap, ◌∙◌, arith}
 use Rattle.std.specs.List.{range_with_len, flat_map}
-use Rattle.std.proofs.lemmas.List.{drop_more, drop-drop, take-append-drop, append_assoc}
-use Rattle.chains.specs.Tables.{Entry, Table}
-use Rattle.chained.specs.Layout.{word, place, two, record_of, record_at, table_of, image, later, Bytes}
+use Rattle.std.proofs.lemmas.List.{drop_more, drop-drop, take-append-drop}
+use Rattle.chained.specs.Layout.{word, place, two, record_of, record_at, table_of, image, Bytes}
 use Rattle.chained.specs.Laws.{OneImage}
 
 -- ---- lists cut into parts

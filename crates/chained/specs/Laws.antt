@@ -1,10 +1,10 @@
 -- What follows from the layout, for every chained book.
-use Rattle.std.specs.Prelude.{◌≡◌, ℕ, ◌+◌, ◌<◌, ◌≤◌, List, length, get_or, Ok, Err, Result}
+use Rattle.std.specs.Prelude.{◌≡◌, ℕ, ◌+◌, ◌<◌, ◌≤◌, List, length, Ok, Err, Result}
 use Rattle.faults.specs.declared.BookFault.{BookFault}
 use Rattle.faults.specs.declared.WireFault.{WireFault}
 use Rattle.faults.specs.declared.WireFault.TheVariants.{WrongLength}
 use Rattle.book.specs.Meaning.{Pair}
-use Rattle.chains.specs.Tables.{Table, marked}
+use Rattle.chains.specs.Tables.{marked}
 use Rattle.chained.specs.Layout.{room_in, place, table_of, image, later, Bytes}
 
 -- The capacity is the largest number of whole records, up to 1,024, and memory is refused just where it

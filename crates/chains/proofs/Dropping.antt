@@ -1,10 +1,10 @@
 -- Drop goes through all 64 chains. Assumes nothing.
-use Rattle.std.proofs.Common.{◌≡◌, ℕ, zero, suc, ◌+◌, ◌-◌, ◌<◌, ◌≤◌, Bool, true, false, cond, not, ◌⊎◌, List, [], ◌∷◌, ◌++◌, map, length, filter, sym, refl, ap, ◌∙◌, subst, inl, inr, ⊎_elim, arith}
+use Rattle.std.proofs.Common.{◌≡◌, ℕ, zero, suc, ◌+◌, ◌<◌, ◌≤◌, not, List, [], ◌∷◌, ◌++◌, map, length, sym, refl, ap, ◌∙◌, subst, inl, ⊎_elim, arith}
 use Rattle.std.specs.List.{range_with_len, flat_map, AllByRecursion as All}
 use Rattle.std.proofs.lemmas.Bool.{cases_eq, cases_lt}
 use Rattle.std.proofs.lemmas.List.{length-append}
 use Rattle.std.proofs.ByRecursion.{all_kept_by}
-use Rattle.book.specs.Meaning.{Pair, others}
+use Rattle.book.specs.Meaning.{others}
 use Rattle.chains.specs.Tables.{Table, head, swept, swept_from, dropped}
 use Rattle.chains.specs.Chains.{of, fronted}
 use Rattle.chains.proofs.Joins.{split, joined_agree, all_joined, map_same, others_map, joined_others, all_both}

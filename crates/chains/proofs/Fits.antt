@@ -1,14 +1,12 @@
 -- A table with its chains as lists of numbers, and what mark and the freeing of a record make of
 -- both. Assumes nothing.
-use Rattle.std.proofs.Common.{◌≡◌, ℕ, zero, suc, ◌+◌, ◌-◌, ◌%◌, ◌<◌, ◌≤◌, Bool, true, false, cond, eqb, ◌⊎◌, List, [], ◌∷◌, ◌++◌, map, length, get_or, set, replicate, sym, refl, ap, ◌∙◌, subst, inl, inr, ⊎_elim, mod-lt, arith}
-use Rattle.std.specs.List.{range_with_len, flat_map, ContainsAt as Has, AllByRecursion as All}
+use Rattle.std.proofs.Common.{◌≡◌, ℕ, zero, suc, ◌+◌, ◌<◌, ◌≤◌, cond, eqb, ◌⊎◌, List, [], ◌∷◌, map, length, get_or, set, replicate, sym, refl, ap, ◌∙◌, subst, inl, inr, ⊎_elim, mod-lt, arith}
+use Rattle.std.specs.List.{range_with_len, flat_map, AllByRecursion as All}
 use Rattle.std.proofs.lemmas.Bool.{cases_eq, eq-eqb, ne_eqb, cond-true, cond-false}
 use Rattle.std.proofs.lemmas.List.{length-set, length-append, get_or-set_same, get_or-set_other, append_assoc, map-append, length-replicate}
-use Rattle.std.proofs.ByRecursion.{All-append, All-weaker}
 use Rattle.book.specs.Meaning.{Pair, Apart}
-use Rattle.chains.specs.Tables.{Entry, Table, entry, put, at, head, pair_of, chain_of, free, with_head, with_next, marked, bridged, freed}
-use Rattle.chains.proofs.Links.{entry_put_same, entry_put_other, length_put, all_left, all_right, Not, Linked, linked_frame, linked_from, fresh, fresh_before, linked_bridge}
-use Rattle.chains.proofs.Joins.{split, all_joined, map_same, apart_insert}
+use Rattle.chains.specs.Tables.{Entry, Table, entry, put, at, head, pair_of, chain_of}
+use Rattle.chains.proofs.Links.{entry_put_same, entry_put_other, Not, Linked}
 
 -- the numbers of all records that hold pairs
 abbrev pub all_of : (ℕ → List ℕ) → List ℕ

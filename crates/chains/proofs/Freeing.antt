@@ -1,11 +1,11 @@
 -- A table after a record was taken out of its chain and put at the free chain's front. Assumes nothing.
-use Rattle.std.proofs.Common.{◌≡◌, ℕ, ◌+◌, ◌-◌, ◌<◌, ◌≤◌, Bool, true, false, cond, eqb, ◌⊎◌, List, [], ◌∷◌, ◌++◌, map, length, get_or, set, replicate, sym, refl, ap, ◌∙◌, subst, inl, inr, ⊎_elim, arith}
+use Rattle.std.proofs.Common.{◌≡◌, ℕ, ◌+◌, ◌<◌, ◌≤◌, ◌⊎◌, List, [], ◌∷◌, ◌++◌, map, length, replicate, sym, refl, ap, ◌∙◌, subst, inl, inr, ⊎_elim, arith}
 use Rattle.std.specs.List.{AllByRecursion as All}
 use Rattle.std.proofs.lemmas.Bool.{cases_eq, eq-eqb, ne_eqb, cond-true, cond-false}
 use Rattle.std.proofs.lemmas.List.{length-set, length-append, length-replicate, get_or-set_same, get_or-set_other, append_assoc, map-append}
 use Rattle.std.proofs.ByRecursion.{All-append, All-weaker}
 use Rattle.book.specs.Meaning.{Pair, Apart}
-use Rattle.chains.specs.Tables.{Entry, Table, entry, put, at, head, pair_of, chain_of, free, with_head, with_next, bridged, freed}
+use Rattle.chains.specs.Tables.{Entry, Table, entry, put, at, head, pair_of, chain_of, with_head, with_next, bridged, freed}
 use Rattle.chains.proofs.Links.{entry_put_same, entry_put_other, length_put, all_left, all_right, Not, Linked, linked_frame, linked_from, fresh, fresh_before, linked_bridge}
 use Rattle.chains.proofs.Joins.{split, all_joined, map_same, apart_remove, all_pairs, all_both}
 use Rattle.chains.proofs.Fits.{all_of, pair_at, Fits, moved, moved_same, moved_free, moved_other, moved_below, moved_upto, entry_shaped}

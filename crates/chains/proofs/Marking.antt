@@ -1,10 +1,10 @@
 -- A table after mark: the first free record stands at its chain's front. Assumes nothing.
-use Rattle.std.proofs.Common.{◌≡◌, ℕ, ◌+◌, ◌<◌, ◌≤◌, List, [], ◌∷◌, ◌++◌, map, length, get_or, set, replicate, sym, refl, ap, ◌∙◌, subst, arith}
+use Rattle.std.proofs.Common.{◌≡◌, ℕ, ◌+◌, ◌<◌, ◌≤◌, List, ◌∷◌, ◌++◌, map, length, set, replicate, sym, refl, ap, ◌∙◌, subst, arith}
 use Rattle.std.specs.List.{ContainsAt as Has, AllByRecursion as All}
 use Rattle.std.proofs.lemmas.List.{length-set, length-append, get_or-set_same, get_or-set_other, map-append}
 use Rattle.std.proofs.ByRecursion.{All-weaker}
 use Rattle.book.specs.Meaning.{Pair, Apart}
-use Rattle.chains.specs.Tables.{Entry, Table, entry, put, at, head, pair_of, chain_of, free, marked}
+use Rattle.chains.specs.Tables.{Entry, Table, entry, put, at, head, pair_of, chain_of, marked}
 use Rattle.chains.proofs.Links.{entry_put_same, length_put, all_left, all_right, Not, Linked, linked_frame, fresh}
 use Rattle.chains.proofs.Joins.{split, all_joined, map_same, apart_insert}
 use Rattle.chains.proofs.Fits.{all_of, pair_at, Fits, moved, moved_same, moved_free, moved_other, moved_below, moved_upto, all_frame, pairs_frame, entry_shaped, chain_below}

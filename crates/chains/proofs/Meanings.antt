@@ -1,12 +1,12 @@
 -- What the calls make of the chains and of the pairs, for every sound table. Assumes nothing.
-use Rattle.std.proofs.Common.{◌≡◌, ℕ, ◌+◌, ◌-◌, ◌<◌, ◌≤◌, not, ◌⊎◌, List, [], ◌∷◌, ◌++◌, map, length, Ok, Err, filter, sym, refl, ap, ◌∙◌, subst, inl, inr, ⊎_elim, arith}
-use Rattle.std.specs.List.{range_with_len, flat_map, ContainsAt as Has, AllByRecursion as All}
-use Rattle.book.specs.Meaning.{Pair, Exactly, others}
-use Rattle.chains.specs.Tables.{Table, at, head, pair_of, chain_of, free, cleared, marked, dropped}
-use Rattle.chains.specs.Chains.{chain, used, pairs, of, fronted, Sound}
+use Rattle.std.proofs.Common.{◌≡◌, ℕ, ◌<◌, List, [], ◌∷◌, ◌++◌, map, length, Ok, Err, sym, refl, ap, ◌∙◌, subst, inl, inr, ⊎_elim, arith}
+use Rattle.std.specs.List.{ContainsAt as Has}
+use Rattle.book.specs.Meaning.{others}
+use Rattle.chains.specs.Tables.{Table, head, chain_of, cleared, marked, dropped}
+use Rattle.chains.specs.Chains.{chain, pairs, Sound}
 use Rattle.chains.specs.Calls.{Chained}
 use Rattle.faults.specs.declared.BookFault.TheVariants.{Spent, Full}
-use Rattle.chains.specs.Laws.{OneAnswer, Found, Clears, ClearedChains, MarksOne, MarkedChains, Drops, DroppedChains}
+use Rattle.chains.specs.Laws.{OneAnswer, Found, ClearedChains, MarkedChains, DroppedChains}
 use Rattle.chains.proofs.Links.{Linked, length_put}
 use Rattle.chains.proofs.Joins.{has_own, own_has, inserted_cases, inserted_has}
 use Rattle.chains.proofs.Fits.{all_of, pair_at, Fits, moved_same, moved_free, moved_other, chain_below}

@@ -1,11 +1,11 @@
 -- A sound table, and its chains as lists: the one from the other. Assumes nothing.
-use Rattle.std.proofs.Common.{◌≡◌, ℕ, ◌+◌, ◌<◌, ◌≤◌, List, [], ◌∷◌, ◌++◌, map, length, get_or, replicate, sym, refl, ap, ◌∙◌, subst, arith}
-use Rattle.std.specs.List.{range_with_len, flat_map, AllByRecursion as All}
+use Rattle.std.proofs.Common.{◌≡◌, ℕ, ◌<◌, ◌≤◌, List, map, length, get_or, replicate, sym, ap, ◌∙◌, subst, arith}
+use Rattle.std.specs.List.{AllByRecursion as All}
 use Rattle.std.proofs.ByRecursion.{All-get_or, All-from_get_or}
-use Rattle.book.specs.Meaning.{Pair, Apart}
-use Rattle.chains.specs.Tables.{Table, entry, at, head, pair_of, chain_of, free}
-use Rattle.chains.specs.Chains.{walk, stop, chain, used, pairs, ShapedTable, Ended, Within, Placed, Unfree, Epochless, Nonceless, Counted, Sound}
-use Rattle.chains.proofs.Links.{Not, Linked, linked_walk, walk_linked, linked_range}
+use Rattle.book.specs.Meaning.{Apart}
+use Rattle.chains.specs.Tables.{Table, at, head, chain_of}
+use Rattle.chains.specs.Chains.{stop, chain, used, pairs, Ended, Within, Placed, Unfree, Sound}
+use Rattle.chains.proofs.Links.{Not, linked_walk, walk_linked, linked_range}
 use Rattle.chains.proofs.Joins.{joined_agree}
 use Rattle.chains.proofs.Fits.{all_of, pair_at, Fits}
 use Rattle.chains.proofs.Dropping.{chain_short}

@@ -1,12 +1,12 @@
 -- One step of each walk, and its end. Assumes nothing.
-use Rattle.std.proofs.Common.{◌≡◌, ℕ, zero, suc, ◌+◌, ◌-◌, ◌<◌, ◌≤◌, Bool, true, false, cond, eqb, ltb, ◌⊎◌, List, [], ◌∷◌, ◌++◌, map, length, get_or, set, replicate, sym, refl, ap, ◌∙◌, subst, inl, inr, ⊎_elim, arith}
+use Rattle.std.proofs.Common.{◌≡◌, ℕ, zero, suc, ◌+◌, ◌-◌, ◌<◌, ◌≤◌, cond, eqb, ltb, ◌⊎◌, List, [], ◌∷◌, map, length, get_or, set, replicate, sym, refl, ap, ◌∙◌, subst, inl, inr, ⊎_elim, arith}
 use Rattle.std.specs.List.{range_with_len, ContainsAt as Has}
 use Rattle.std.proofs.lemmas.Bool.{cases_eq, eq-eqb, ne_eqb, lt-ltb, le-ltb, cond-true, cond-false}
-use Rattle.std.proofs.lemmas.List.{same_lists, get_or_default, get_or-set_same, get_or-set_other, length-set, get_or-replicate}
+use Rattle.std.proofs.lemmas.List.{same_lists, get_or_default, get_or-set_same, get_or-set_other}
 use Rattle.std.proofs.lemmas.List.FromFn.{length-map-range_with_len, get_or-map-range_with_len}
 use Rattle.book.specs.Meaning.{Pair}
 use Rattle.book.proofs.Sets.{has_here, has_there, has_cases}
-use Rattle.chains.specs.Tables.{Entry, Table, blank, entry, put, at, head, pair_of, chain_of, with_head, with_size, with_entry, with_next, bridged, freed, marked, swept, swept_from, cleared}
+use Rattle.chains.specs.Tables.{Entry, Table, blank, entry, put, at, head, pair_of, chain_of, with_head, with_size, with_entry, bridged, freed, marked, swept, swept_from, cleared}
 use Rattle.chains.specs.Chains.{walk}
 use Rattle.chains.specs.Calls.{Chained}
 

@@ -1,16 +1,16 @@
 -- A table after drop: each chain has lost the records of the epoch, and they stand at the free chain's
 -- front, the last one first. Assumes nothing.
-use Rattle.std.proofs.Common.{◌≡◌, ℕ, zero, suc, ◌+◌, ◌-◌, ◌<◌, ◌≤◌, Bool, true, false, cond, not, eqb, ◌⊎◌, List, [], ◌∷◌, ◌++◌, map, length, filter, sym, refl, ap, ◌∙◌, subst, inl, inr, ⊎_elim, arith}
-use Rattle.std.specs.List.{range_with_len, flat_map, AllByRecursion as All}
-use Rattle.std.proofs.lemmas.Bool.{cases_Bool, cases_eq, cases_lt, eq-eqb, ne_eqb, cond-true, cond-false, not_from_true, not_from_false}
-use Rattle.std.proofs.lemmas.List.{length-append, append-nil, append_assoc}
+use Rattle.std.proofs.Common.{◌≡◌, ℕ, zero, suc, ◌<◌, ◌≤◌, true, false, cond, not, eqb, List, [], ◌∷◌, ◌++◌, length, filter, sym, refl, ap, ◌∙◌, subst, inr, ⊎_elim, arith}
+use Rattle.std.specs.List.{AllByRecursion as All}
+use Rattle.std.proofs.lemmas.Bool.{cases_Bool, cases_eq, eq-eqb, ne_eqb, cond-true, cond-false, not_from_true, not_from_false}
+use Rattle.std.proofs.lemmas.List.{append_assoc}
 use Rattle.std.proofs.ByRecursion.{All-append, All-weaker, all_kept_by}
-use Rattle.book.specs.Meaning.{Pair, others}
-use Rattle.chains.specs.Tables.{Entry, Table, entry, at, head, pair_of, swept, swept_from, dropped, freed, bridged}
+use Rattle.book.specs.Meaning.{Pair}
+use Rattle.chains.specs.Tables.{Table, at, head, swept, freed, bridged}
 use Rattle.chains.specs.Chains.{of, fronted}
 use Rattle.chains.proofs.Links.{all_left, all_right, Not, Linked, linked_suffix, linked_start}
-use Rattle.chains.proofs.Joins.{split, joined_agree, all_joined, map_same, others_map, joined_others, kept_same, all_both}
-use Rattle.chains.proofs.Fits.{all_of, pair_at, Fits, moved, moved_same, moved_free, moved_other}
+use Rattle.chains.proofs.Joins.{kept_same, all_both}
+use Rattle.chains.proofs.Fits.{pair_at, Fits, moved_same, moved_free, moved_other}
 use Rattle.chains.proofs.Freeing.{Before, freed_table, freed_lists, freed_same, freed_fits, freed_long, not_one}
 
 -- the records of a list that are not of an epoch, and those that are

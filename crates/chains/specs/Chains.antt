@@ -1,5 +1,5 @@
 -- What a table means: its chains as lists of record numbers, and the pairs in them.
-use Rattle.std.specs.Prelude.{◌≡◌, ℕ, zero, suc, ◌+◌, ◌<◌, ◌≤◌, Bool, cond, not, List, [], ◌∷◌, ◌++◌, map, length, replicate, ◌==◌, slice_index}
+use Rattle.std.specs.Prelude.{◌≡◌, ℕ, zero, suc, ◌+◌, ◌<◌, ◌≤◌, Bool, cond, List, [], ◌∷◌, map, length, replicate, ◌==◌, slice_index}
 use Rattle.std.specs.List.{range_with_len, flat_map}
 use Rattle.book.specs.Meaning.{Pair, Apart}
 use Rattle.chains.specs.Tables.{Entry, Table, entry, at, head, pair_of, chain_of, free}

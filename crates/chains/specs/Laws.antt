@@ -1,5 +1,5 @@
 -- What the calls make of the chains and of the pairs, for every sound table.
-use Rattle.std.specs.Prelude.{◌≡◌, ℕ, ◌+◌, ◌-◌, ◌<◌, ◌≤◌, not, ◌⊎◌, List, [], ◌∷◌, length, filter, Result, ◌≢◌}
+use Rattle.std.specs.Prelude.{◌≡◌, ℕ, ◌<◌, ◌≤◌, not, ◌⊎◌, [], ◌∷◌, length, filter, Result, ◌≢◌}
 use Rattle.std.specs.List.{range_with_len, flat_map, ContainsAt as Has}
 use Rattle.faults.specs.declared.BookFault.{BookFault}
 use Rattle.book.specs.Meaning.{Pair, Exactly, others}

@@ -1,10 +1,10 @@
 -- What a sound table means as a book.
-use Rattle.std.specs.Prelude.{◌≡◌, ℕ, ◌+◌, ◌^◌, ◌<◌, ◌≤◌, List, [], ◌∷◌, map, length}
-use Rattle.std.proofs.Common.{sym, ◌∙◌, arith}
+use Rattle.std.specs.Prelude.{◌≡◌, ℕ, ◌^◌, ◌<◌, ◌≤◌, List, [], ◌∷◌, length}
+use Rattle.std.proofs.Common.{arith}
 use Rattle.std.specs.List.{AllByRecursion as All}
 use Rattle.std.proofs.lemmas.List.{length-map}
 use Rattle.std.proofs.ByRecursion.{All-map}
-use Rattle.book.specs.Meaning.{Pair, Shaped, Meaning}
+use Rattle.book.specs.Meaning.{Shaped, Meaning}
 use Rattle.chains.specs.Tables.{Table, at, pair_of}
 use Rattle.chains.specs.Chains.{used, pairs, Sound}
 

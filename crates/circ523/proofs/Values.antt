@@ -6,7 +6,6 @@ use Rattle.scalar.specs.Inverse.{inverse_number}
 use Rattle.circle.specs.Circle.{times, mapped_pair}
 use Rattle.circle.specs.Circle as circle
 use Rattle.circle.proofs.Cyclic.{multiple_member}
-use Rattle.group.specs.Elements.{null, opposite}
 use Rattle.circ523.specs.Elements.{multiple_of_base, code_of, element_of, mapped_point}
 use Rattle.circ523.specs.Worked.{CircleGroup, Worked}
 use Rattle.circ523.proofs.Steps.{is_null, is_generator, is_sum, is_opposite, sum_member, opposite_member}

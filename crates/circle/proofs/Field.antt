@@ -1,5 +1,5 @@
 -- The numbers modulo 523: the order is prime, and an inverse is a number below it.
-use Rattle.std.proofs.Common.{◌≡◌, ℕ, ◌<◌, ◌≤◌, ap, ◌∙◌, mod-eq_of_lt, arith, lit<, lit≤}
+use Rattle.std.proofs.Common.{◌≡◌, ℕ, ◌<◌, ap, ◌∙◌, mod-eq_of_lt, arith, lit<, lit≤}
 use native.Mathlib.Decide.{dec_lt}
 use Rattle.numbers.specs.Prime.{Prime}
 use Rattle.numbers.proofs.Primes.{prime_by_test}

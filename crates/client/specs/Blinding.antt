@@ -7,7 +7,7 @@ use Rattle.faults.specs.declared.BatchFault.TheVariants.{Wire, Ring}
 use Rattle.group.specs.Model.{Model}
 use Rattle.voprf.specs.Blinding.{blinded}
 use Rattle.messages.specs.Answers.{ruled}
-use Rattle.messages.specs.Messages.{Batch, request_bytes, request_length}
+use Rattle.messages.specs.Messages.{request_bytes, request_length}
 use Rattle.token.specs.Tokens.{then, of_group, element_of}
 use Rattle.client.specs.declared.Pending.{Pending}
 use Rattle.client.specs.Batches.{of_item, input_of, opened}

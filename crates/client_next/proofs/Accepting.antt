@@ -1,5 +1,5 @@
 -- A reply by a station that keeps to the steps is accepted.
-use Rattle.std.proofs.Common.{◌≡◌, ℕ, zero, suc, ◌+◌, ◌*◌, ◌/◌, ◌%◌, ◌<◌, ◌≤◌, Bool, true, false, not, eqb, ltb, List, [], ◌∷◌, ◌++◌, map, length, take, drop, Ok, Err, Result, sym, refl, ap, ◌∙◌, subst, arith}
+use Rattle.std.proofs.Common.{◌≡◌, ℕ, ◌*◌, ◌/◌, ◌%◌, ◌<◌, ◌≤◌, not, eqb, ltb, List, [], ◌∷◌, ◌++◌, map, length, Ok, Result, sym, refl, ap, ◌∙◌, subst, arith}
 use Rattle.std.specs.Option.{ok_or}
 use Rattle.std.proofs.lemmas.List.{length-map}
 use Rattle.std.proofs.lemmas.Bool.{le-ltb, ltb-false, eqb-false}
@@ -8,7 +8,7 @@ use Rattle.faults.specs.declared.RingFault.TheVariants.{NotOpen}
 use Rattle.faults.specs.declared.GroupFault.TheVariants.{NoScalar}
 use Rattle.faults.specs.declared.BatchFault.{BatchFault}
 use Rattle.faults.specs.declared.BatchFault.TheVariants.{Wire, Ring}
-use Rattle.scalar.specs.Scalars.{scalar_of, scalar_code}
+use Rattle.scalar.specs.Scalars.{scalar_code}
 use Rattle.scalar.proofs.Codes.{code_read}
 use Rattle.group.specs.Model.{Model}
 use Rattle.group.specs.Theorems.{row}
@@ -23,12 +23,12 @@ use Rattle.messages.proofs.Ruled.{passed, passes, equal_passes, passed_equal}
 use Rattle.token.specs.Tokens.{then, of_group, element_of}
 use Rattle.client_next.specs.Batches.{sent_code, walked}
 use Rattle.client_next.specs.Blinding.{vetted, blind_answer}
-use Rattle.client_next.specs.Finishing.{code_again, token_made, reply_parts, finish_vetted, confirmed, finish_answer}
+use Rattle.client_next.specs.Finishing.{code_again, token_made, reply_parts, finish_vetted, confirmed}
 use Rattle.client_next.specs.Honest.{GoodTokens, Ordered, HonestReplies}
 use Rattle.client_next.proofs.Replies.{reply_fits}
 use Rattle.client_next.proofs.Following.{then_ok}
 use Rattle.client_next.proofs.Finishes.{judged, all_done}
-use Rattle.client_next.proofs.Honesty.{element_whole, public_some, Answered, all_answered}
+use Rattle.client_next.proofs.Honesty.{element_whole, public_some, all_answered}
 
 same_answer : {T F : Type 0} (x y : T) → ◌≡◌ {A = Result T F} (Ok x) (Ok y) → x ≡ y
 same_answer x y e = cc

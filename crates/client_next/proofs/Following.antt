@@ -1,8 +1,7 @@
 -- What is known of an item that passed, and that the second pass follows the first.
-use Rattle.std.proofs.Common.{◌≡◌, ℕ, zero, suc, ◌+◌, Bool, true, false, cond, List, [], ◌∷◌, ◌++◌, length, take, drop, Ok, Err, Result, sym, refl, ap, ◌∙◌, arith}
+use Rattle.std.proofs.Common.{◌≡◌, ℕ, zero, suc, ◌+◌, Bool, true, false, List, [], ◌∷◌, ◌++◌, take, drop, Ok, Err, Result, sym, refl, ap, ◌∙◌, arith}
 use Rattle.faults.specs.declared.GroupFault.{GroupFault}
 use Rattle.faults.specs.declared.GroupFault.TheVariants.{NullInput}
-use Rattle.faults.specs.declared.BatchFault.{BatchFault}
 use Rattle.group.specs.Model.{Model}
 use Rattle.hashing.specs.Hashing.{hash_to_group, authenticator}
 use Rattle.voprf.specs.Blinding.{blinded, unblinded}

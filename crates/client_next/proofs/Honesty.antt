@@ -1,24 +1,24 @@
 -- What a station that keeps to the steps answers is accepted, item by item.
-use Rattle.std.proofs.Common.{◌≡◌, ℕ, zero, suc, ◌+◌, ◌-◌, ◌*◌, ◌<◌, ◌≤◌, Bool, true, false, eqb, List, [], ◌∷◌, ◌++◌, map, length, take, drop, Ok, Err, Result, sym, refl, ap, ◌∙◌, subst, arith, length-append, length-drop}
+use Rattle.std.proofs.Common.{◌≡◌, ℕ, zero, suc, ◌+◌, ◌*◌, ◌<◌, false, List, [], ◌∷◌, ◌++◌, map, length, take, drop, Ok, Result, sym, refl, ap, ◌∙◌, subst, arith, length-append, length-drop}
 use Rattle.std.specs.Option.{ok_or}
 use Rattle.std.specs.List.{AllByRecursion as All}
 use Rattle.std.proofs.lemmas.List.{append-nil, append_assoc, take_at, drop_at, drop-drop, length-take-le}
-use Rattle.std.proofs.lemmas.Bool.{eq-eqb, ne_eqb, eqb-true, both_ways}
+use Rattle.std.proofs.lemmas.Bool.{eq-eqb, ne_eqb, both_ways}
 use Rattle.faults.specs.declared.GroupFault.{GroupFault}
 use Rattle.faults.specs.declared.GroupFault.TheVariants.{NoElement, NullElement}
 use Rattle.faults.specs.declared.BatchFault.{BatchFault}
 use Rattle.group.specs.Model.{Model}
-use Rattle.group.specs.Elements.{null, multiple, base_multiple}
+use Rattle.group.specs.Elements.{null}
 use Rattle.group.specs.Theorems.{row}
 use Rattle.group.proofs.Logs.{log_null, log_base}
 use Rattle.group.proofs.Laws.{log_zero, only_null, unblinds}
 use Rattle.hashing.specs.Hashing.{hash_to_group, key_id, authenticator}
 use Rattle.voprf.specs.Blinding.{public_key, blinded, answered, unblinded, direct}
 use Rattle.messages.specs.Answers.{ruled}
-use Rattle.messages.specs.Laws.{Fitting, written_token}
+use Rattle.messages.specs.Laws.{Fitting}
 use Rattle.messages.specs.Messages.{Parts, token_bytes, token_input_bytes}
 use Rattle.messages.proofs.Tokens.{token_trip}
-use Rattle.token.specs.Tokens.{then, is_null, element_of, key_of, Good}
+use Rattle.token.specs.Tokens.{then, is_null, element_of, Good}
 use Rattle.client_next.specs.Batches.{input_under, input_of, sent_code, walked}
 use Rattle.client_next.specs.Finishing.{code_again, token_made}
 use Rattle.client_next.specs.Honest.{token_at, GoodTokens}

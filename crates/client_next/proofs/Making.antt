@@ -1,5 +1,5 @@
 -- What a pass of `finish` makes of one item.
-use Rattle.std.proofs.Common.{◌≡◌, ℕ, ◌+◌, List, ◌++◌, length, Ok, Err, Result, sym, refl, ap, ◌∙◌, arith, length-append, MatchResult}
+use Rattle.std.proofs.Common.{◌≡◌, ℕ, ◌+◌, List, ◌++◌, length, Ok, Err, Result, sym, ap, ◌∙◌, arith, length-append, MatchResult}
 use Rattle.faults.specs.declared.GroupFault.{GroupFault}
 use Rattle.faults.specs.declared.BatchFault.{BatchFault}
 use Rattle.faults.specs.declared.BatchFault.TheVariants.{Item}

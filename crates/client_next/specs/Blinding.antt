@@ -1,5 +1,5 @@
 -- What `blind` answers.
-use Rattle.std.specs.Prelude.{◌≡◌, ℕ, ◌*◌, ◌/◌, ◌%◌, ◌≤◌, not, List, [], ◌∷◌, ◌++◌, length, Ok, Err, Result, ◌==◌, nat_lt}
+use Rattle.std.specs.Prelude.{◌≡◌, ℕ, ◌*◌, ◌/◌, ◌%◌, ◌≤◌, not, List, [], ◌∷◌, length, Ok, Err, Result, ◌==◌, nat_lt}
 use Rattle.faults.specs.declared.WireFault.TheVariants.{ShortScratch, WrongLength, WrongCount, ShortOutlet}
 use Rattle.faults.specs.declared.RingFault.TheVariants.{NotOpen}
 use Rattle.faults.specs.declared.BatchFault.{BatchFault}
@@ -7,7 +7,7 @@ use Rattle.faults.specs.declared.BatchFault.TheVariants.{Wire, Ring}
 use Rattle.group.specs.Model.{Model}
 use Rattle.hashing.specs.Hashing.{key_id}
 use Rattle.messages.specs.Answers.{ruled}
-use Rattle.messages.specs.Messages.{Batch, request_bytes, request_length}
+use Rattle.messages.specs.Messages.{request_bytes, request_length}
 use Rattle.token.specs.Tokens.{then, of_group, element_of}
 use Rattle.client_next.specs.declared.pending.Pending.{Pending}
 use Rattle.client_next.specs.Batches.{sent_code, walked}

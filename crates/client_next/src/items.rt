@@ -1,6 +1,6 @@
 // The items of a batch, one by one.
 ghost use Rattle.std.specs.Prelude.{◌≡◌, ℕ, ◌+◌, ◌*◌, ◌<◌, ◌≤◌, [], ◌++◌, length, take, IfOk, Ok, Err, MatchResult};
-ghost use Rattle.client_next.specs.Batches.{of_item, input_under, sent as sent-for, sent_code, walked};
+ghost use Rattle.client_next.specs.Batches.{of_item, input_under, sent as sent_for, sent_code, walked};
 
 use faults::{BatchFault, GroupFault};
 use group::Group;
@@ -23,7 +23,7 @@ pub fn input<G: Group>(epoch: u16, id: &[u8; 32], seed: &[u8]) -> [u8; 100]
 // What is sent for an item, where its input does not map to the null. The input is hashed to the group once.
 pub fn send<G: Group>(bytes: &mut [u8], input: &[u8; 100], blind: &[u8]) -> Result<G, GroupFault>
     requires { 1024 ≤ length bytes.old }
-    ensures { result ≡ sent-for G.model input.now blind.now }
+    ensures { result ≡ sent_for G.model input.now blind.now }
 {
     let r = nonzero::<G>(blind)?;
     let mapped = hash_to_group::<G>(bytes, input);

@@ -1,5 +1,5 @@
 -- How many bytes a written batch has: its request, and its tokens. Assumes nothing.
-use Rattle.std.proofs.Common.{◌≡◌, ℕ, zero, suc, ◌+◌, ◌*◌, ◌/◌, ◌%◌, ◌≤◌, Bool, not, eqb, ltb, List, [], ◌∷◌, ◌++◌, length, take, drop, Ok, Err, Result, sym, refl, ap, ◌∙◌, suc-mul, zero-mul, arith, length-append, length-drop}
+use Rattle.std.proofs.Common.{◌≡◌, ℕ, zero, suc, ◌+◌, ◌*◌, ◌/◌, ◌%◌, ◌≤◌, Bool, not, eqb, ltb, List, [], ◌∷◌, ◌++◌, length, take, drop, Ok, Result, sym, ap, ◌∙◌, suc-mul, zero-mul, arith, length-append, length-drop}
 use Rattle.std.proofs.lemmas.List.{length-take-le}
 use Rattle.faults.specs.declared.BatchFault.{BatchFault}
 use Rattle.faults.specs.declared.BatchFault.TheVariants.{Wire, Ring}
@@ -11,7 +11,7 @@ use Rattle.hashing.specs.Hashing.{authenticator, key_id}
 use Rattle.messages.proofs.Ruled.{same_answer, passes, passed_equal}
 use Rattle.messages.proofs.Writing.{request_bytes_length}
 use Rattle.messages.specs.Answers.{ruled}
-use Rattle.messages.specs.Messages.{Answers, request_bytes, request_length, token_bytes, token_input_bytes}
+use Rattle.messages.specs.Messages.{Answers, request_length, token_bytes, token_input_bytes}
 use Rattle.token.specs.Tokens.{then, of_group, element_of, key_of}
 use Rattle.voprf.specs.Blinding.{unblinded}
 use Rattle.client_next.proofs.Following.{then_ok, item_passed}

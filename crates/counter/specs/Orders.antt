@@ -10,7 +10,7 @@ use Rattle.faults.specs.Numbers.{batch_tells}
 use Rattle.faults.specs.declared.BatchFault.{BatchFault}
 use Rattle.faults.specs.declared.Refusal.{Refusal}
 use Rattle.res2039.specs.Kind.{residues}
-use Rattle.script_next.specs.Reports.{Said, bytes, pair, outcome_of}
+use Rattle.script_next.specs.Reports.{bytes, pair, outcome_of}
 use Rattle.script_next.specs.Sessions.{Outcome}
 use Rattle.script_next.specs.declared.answers.Answer.{Answer}
 use Rattle.script_next.specs.declared.errors.LineFault.{LineFault}

@@ -1,6 +1,6 @@
 -- What the calls of a script on a book answer, over the book's meaning.
 use Rattle.std.specs.Prelude.{◌≡◌, ℕ, Bool, List, length, Ok, Err, Decides, Result, ◌≢◌}
-use Rattle.book.specs.Meaning.{Meaning, In, Alike, Marked}
+use Rattle.book.specs.Meaning.{Meaning, In, Marked}
 use Rattle.faults.specs.declared.StationFault.{StationFault}
 use Rattle.faults.specs.declared.StationFault.TheVariants.{Wire, Ring, Group, Batch, Token, Book}
 use Rattle.faults.specs.declared.WireFault.{WireFault}

@@ -1,5 +1,5 @@
 -- Hash values over bytes that are put together from parts.
-use Rattle.std.proofs.Common.{◌≡◌, ℕ, zero, suc, ◌+◌, ◌-◌, ◌*◌, ◌/◌, ◌%◌, ◌<◌, ◌≤◌, List, [], ◌∷◌, ◌++◌, length, get_or, take, drop, sym, refl, ap, ◌∙◌, append_assoc, add-zero, add-suc, mul-suc, mul-add, add-one, arith}
+use Rattle.std.proofs.Common.{◌≡◌, ℕ, zero, suc, ◌+◌, ◌*◌, ◌/◌, ◌≤◌, List, ◌++◌, length, take, drop, sym, refl, ap, ◌∙◌, append_assoc, add-zero, add-suc, mul-suc, mul-add, arith}
 use Rattle.std.proofs.lemmas.List.{length-append, take-append-le, drop-append-le, drop_at, take-append-drop, length-take-le, length-drop, drop-drop, take_all}
 use Rattle.digest.specs.Padding.{padding, padded}
 use Rattle.digest.specs.Sha256.{compressed, chained, closed}

@@ -1,6 +1,5 @@
 -- The constants are roots of primes, by tests that antt computes over the whole tables.
-use Rattle.std.proofs.Common.{◌≡◌, ℕ, zero, suc, ◌+◌, ◌-◌, ◌*◌, ◌%◌, ◌^◌, ◌<◌, ◌≤◌, Bool, true, false, cond, not, ◌||◌, T, eqb, ltb, leb, List, [], ◌∷◌, length, get_or, sym, refl, ap, ◌∙◌, subst, arith, lit<, eqb→eq, ltb→lt, leb→le}
-use Rattle.numbers.specs.Prime.{Prime, FirstPrimes}
+use Rattle.std.proofs.Common.{ℕ, zero, suc, ◌+◌, ◌*◌, ◌^◌, Bool, cond, T, ltb, leb, get_or, ltb→lt, leb→le}
 use Rattle.numbers.proofs.Table.{both, both_left, both_right, every, at}
 use Rattle.numbers.proofs.Primes.{first_primes}
 use Rattle.digest.specs.Constants.{primes, round_constants, initial, FractionOfRoot, ConstantsAreRootsOfPrimes}

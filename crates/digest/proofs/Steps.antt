@@ -1,10 +1,9 @@
 -- One step more of the message schedule and of the rounds, as a loop at `n + 1` has it.
-use Rattle.std.proofs.Common.{◌≡◌, ℕ, suc, ◌+◌, ◌*◌, ◌<◌, ◌≤◌, List, [], ◌∷◌, ◌++◌, length, get_or, take, drop, sym, refl, ap, ◌∙◌, add-one, arith}
-use Rattle.std.proofs.lemmas.List.{length_push, get_or-take}
+use Rattle.std.proofs.Common.{◌≡◌, ℕ, ◌+◌, ◌*◌, ◌<◌, List, [], ◌∷◌, ◌++◌, get_or, take, drop, sym, ap, ◌∙◌, add-one, arith}
+use Rattle.std.proofs.lemmas.List.{get_or-take}
 use Rattle.digest.specs.declared.compress.Working.{Working}
 use Rattle.digest.specs.Constants.{round_constants}
-use Rattle.digest.specs.Words.{◌⊞◌, σ₀, σ₁}
-use Rattle.digest.specs.Sha256.{block_words, next_word, grown, stepped, rounds, compressed, chained}
+use Rattle.digest.specs.Sha256.{next_word, grown, stepped, rounds, compressed, chained}
 
 pub rounds_more : (w : List ℕ) (n : ℕ) (v : Working)
     → rounds w (n + 1) v ≡ stepped (rounds w n v) (get_or round_constants n 0) (get_or w n 0)

@@ -10,7 +10,7 @@
 ghost use Rattle.std.specs.Prelude.{◌≡◌, ℕ, ◌+◌, ◌-◌, ◌*◌, ◌/◌, ◌%◌, ◌^◌, ◌<◌, ◌≤◌, ◌++◌, length, take, codes};
 ghost use Rattle.digest.specs.Sha256.{sha256};
 ghost use Rattle.hashing.specs.Appending.{Appended};
-ghost use Rattle.hashing.specs.Hashing.{context_string, framed_code, tagged, hash_to_scalar as scalar-hash, hash_to_group as group-hash, framed, key_id as id-of, authenticator as authentic};
+ghost use Rattle.hashing.specs.Hashing.{context_string, framed_code, tagged, hash_to_scalar as scalar_hash, hash_to_group as group_hash, framed, key_id as id_of, authenticator as authentic};
 
 use digest::digest;
 use group::Group;
@@ -84,7 +84,7 @@ fn hash_tagged<G: Group>(bytes: &mut [u8], len: usize, label: &[u8]) -> [u8; 32]
 pub fn hash_to_scalar<G: Group>(bytes: &mut [u8], len: usize) -> G::Scalar
     requires room { len + 45 ≤ length bytes.old }
     requires few { len ≤ 4000 }
-    ensures { result ≡ scalar-hash G.model (take len bytes.old) }
+    ensures { result ≡ scalar_hash G.model (take len bytes.old) }
 {
     G::reduce(&hash_tagged::<G>(bytes, len, b"HashToScalar-"))
 }
@@ -93,7 +93,7 @@ pub fn hash_to_scalar<G: Group>(bytes: &mut [u8], len: usize) -> G::Scalar
 pub fn hash_to_group<G: Group>(bytes: &mut [u8], input: &[u8]) -> G
     requires room { length input.now + 45 ≤ length bytes.old }
     requires few { length input.now ≤ 4000 }
-    ensures { result ≡ group-hash G.model input.now }
+    ensures { result ≡ group_hash G.model input.now }
 {
     let len = put(bytes, 0, input);
     G::map(&hash_tagged::<G>(bytes, len, b"HashToGroup-"))
@@ -101,7 +101,7 @@ pub fn hash_to_group<G: Group>(bytes: &mut [u8], input: &[u8]) -> G
 
 // What stands for a public key in a token.
 pub fn key_id<G: Group>(pk: G) -> [u8; 32]
-    ensures { result ≡ id-of G.model pk }
+    ensures { result ≡ id_of G.model pk }
 {
     hash(pk.encode().as_slice())
 }

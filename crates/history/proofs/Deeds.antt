@@ -1,7 +1,7 @@
 -- What the law says of an accepted call, and that an epoch has one key for good.
-use Rattle.std.proofs.Common.{◌≡◌, ℕ, ◌<◌, ◌≤◌, max, Bool, true, false, cond, not, eqb, ltb, leb, ◌⊎◌, List, [], ◌∷◌, ◌++◌, length, Some, None, Ok, Err, Option, Result, sym, refl, ap, ◌∙◌, subst, inl, inr, ⊎_elim, arith}
+use Rattle.std.proofs.Common.{◌≡◌, ℕ, ◌<◌, ◌≤◌, Bool, true, false, cond, not, eqb, ltb, leb, ◌⊎◌, List, [], ◌∷◌, ◌++◌, length, Some, None, Ok, Err, Option, Result, sym, refl, ap, ◌∙◌, subst, inl, inr, ⊎_elim, arith}
 use native.Mathlib.Nat.{le-max_left, le-max_right}
-use Rattle.std.proofs.lemmas.Bool.{eqb-true, leb-false, leb-true, cases_lt, cases_Bool}
+use Rattle.std.proofs.lemmas.Bool.{eqb-true, leb-false, cases_lt}
 use Rattle.std.specs.List.{ContainsAt as Has}
 use Rattle.faults.specs.declared.WireFault.TheVariants.{ShortScratch, WrongLength, ShortOutlet}
 use Rattle.faults.specs.declared.RingFault.{RingFault}
@@ -20,11 +20,11 @@ use Rattle.station.specs.Issuing.{issue_answer}
 use Rattle.station.specs.Redeeming.{redeemable}
 use Rattle.history.specs.declared.calls.Call.{Call}
 use Rattle.history.specs.declared.calls.Call.TheVariants.{Count, Open, Close, Issue, Redeem}
-use Rattle.history.specs.Events.{Told, done, number, bytes, refused, Event, event, Deed, opens, closes, issues, accepts, nothing, deed, did}
-use Rattle.history.specs.History.{pair_of, highest_after, highest, open_number, admission, Accepted, Issued, key_told, key_after, open_key, counted}
-use Rattle.history.specs.Law.{bytes_told, drop_told, Judged, RedeemTells, Right, AllRight}
+use Rattle.history.specs.Events.{Told, done, number, bytes, refused, Event, Deed, opens, closes, issues, accepts, nothing, deed, did}
+use Rattle.history.specs.History.{pair_of, highest_after, highest, open_number, admission, Accepted, key_told, key_after, open_key, counted}
+use Rattle.history.specs.Law.{bytes_told, drop_told, RedeemTells, Right, AllRight}
 use Rattle.history.specs.Kept.{SoFar}
-use Rattle.history.proofs.Steps.{no_answer, false_true, none_some, then_ok, ring_ok, group_ok}
+use Rattle.history.proofs.Steps.{no_answer, none_some, then_ok, ring_ok, group_ok}
 use Rattle.history.proofs.Worth.{worth_in}
 
 pub refused_done : {X : Type 0} {f : StationFault} → done ≡ refused f → X

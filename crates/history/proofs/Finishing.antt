@@ -1,19 +1,18 @@
 -- An accepted issue of a request that blind wrote is answered as the steps say, so finish accepts its reply.
-use Rattle.std.proofs.Common.{◌≡◌, ℕ, ◌*◌, ◌/◌, ◌<◌, ◌≤◌, List, [], ◌∷◌, ◌++◌, map, length, Some, None, Ok, Err, Option, Result, sym, refl, ap, ◌∙◌, subst, arith}
+use Rattle.std.proofs.Common.{◌≡◌, ℕ, ◌*◌, ◌≤◌, List, [], map, length, Some, Ok, Option, sym, ap, ◌∙◌, subst}
 use Rattle.scalar.specs.Scalars.{scalar_code}
 use Rattle.group.specs.Model.{Model}
 use Rattle.group.specs.Theorems.{row}
 use Rattle.voprf.specs.Blinding.{public_key, answered}
 use Rattle.voprf.specs.Proving.{proved}
-use Rattle.messages.specs.Messages.{Batch, read_request, batch_of, written_request, written_reply, reply_bytes}
+use Rattle.messages.specs.Messages.{Batch, read_request, batch_of, written_reply, reply_bytes}
 use Rattle.messages.proofs.Ruled.{same_answer}
 use Rattle.messages.proofs.Batches.{written_request_read}
-use Rattle.client_next.specs.Blinding.{blind_answer}
 use Rattle.client_next.specs.Finishing.{finish_answer}
-use Rattle.client_next.specs.Honest.{GoodTokens, Ordered}
+use Rattle.client_next.specs.Honest.{GoodTokens}
 use Rattle.client_next.proofs.Accepting.{honest}
 use Rattle.station.specs.Issuing.{answer_codes}
-use Rattle.history.specs.Events.{Event, issues, did}
+use Rattle.history.specs.Events.{Event}
 use Rattle.history.specs.History.{open_key}
 use Rattle.history.specs.Law.{Finishes}
 use Rattle.history.specs.Kept.{SoFar}
@@ -45,17 +44,17 @@ module _ {E S K : Type 0} (m : Model E S K) (places : ℕ) where
       (r.u, r.c, r.s, proof, reply)
 
   pub finishes : (h : List Event) → SoFar m places h → Finishes m h
-  finishes h l later before ev q p split deed k epoch found small seeds blinds scratch outlet wrote full-scratch full-outlet room wide =
+  finishes h l later before ev q p split deed k epoch found small seeds blinds scratch outlet wrote full_scratch full_outlet room wide =
       let f = subst (Apt m places before) deed (apt m places before ev.call ev.answer (law_at m places later before ev (subst (SoFar m places) split l))) in
       let r = issue_ok m f.0 f.1 (open_key m before) q f.2 p f.3 in
       let o = honest m k scratch epoch seeds blinds q outlet small wrote in
       let bs = o.items in
       let reads : read_request m q ≡ Ok (batch_of m epoch bs) = ap (read_request m) o.written ∙ written_request_read m epoch bs (small, o.some, o.few) in
       let a = replied_as (open_key m before) q p epoch k bs r reads found (λ j. rows_out m j 0 bs [] o.none_null) in
-      let done = o.accepted a.0 a.1 a.2 a.3 full-scratch full-outlet room (subst (λ (n : ℕ). 132 * n ≤ full-outlet) (sym o.counted) wide) in (
+      let done = o.accepted a.0 a.1 a.2 a.3 full_scratch full_outlet room (subst (λ (n : ℕ). 132 * n ≤ full_outlet) (sym o.counted) wide) in (
         done.0,
-        ap (λ (n : ℕ). finish_answer m full-scratch epoch n (m.code (public_key m k)) seeds blinds p full-outlet) (sym o.counted)
-            ∙ ap (λ x. finish_answer m full-scratch epoch (length bs) (m.code (public_key m k)) seeds blinds x full-outlet) a.4
+        ap (λ (n : ℕ). finish_answer m full_scratch epoch n (m.code (public_key m k)) seeds blinds p full_outlet) (sym o.counted)
+            ∙ ap (λ x. finish_answer m full_scratch epoch (length bs) (m.code (public_key m k)) seeds blinds x full_outlet) a.4
             ∙ done.1,
         subst (λ (n : ℕ). GoodTokens m k epoch seeds n done.0) o.counted done.2,
       )

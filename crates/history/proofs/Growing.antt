@@ -1,5 +1,5 @@
 -- The history after one call more, and the whole law of a history that is kept.
-use Rattle.std.proofs.Common.{◌≡◌, ℕ, zero, suc, ◌+◌, ◌<◌, ◌≤◌, min, List, [], ◌∷◌, ◌++◌, reverse, length, get_or, take, drop, set, sym, refl, ap, ◌∙◌, subst, arith, length-take-le, take_all, drop-set-lt}
+use Rattle.std.proofs.Common.{◌≡◌, ℕ, zero, suc, ◌+◌, ◌<◌, ◌≤◌, min, List, [], ◌∷◌, ◌++◌, reverse, length, get_or, take, drop, set, sym, refl, ap, ◌∙◌, arith, length-take-le, take_all, drop-set-lt}
 use native.Mathlib.Nat.{suc-min-suc}
 use Rattle.std.proofs.lemmas.List.{take_more, take_more_set, reverse-append, drop-drop}
 use Rattle.group.specs.Model.{Model}

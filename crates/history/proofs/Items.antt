@@ -1,7 +1,6 @@
 -- The items of an answered request: each answer is its element times the key, and no element is the null.
-use Rattle.std.proofs.Common.{◌≡◌, ℕ, zero, suc, ◌+◌, ◌*◌, ◌<◌, ◌≤◌, Bool, true, false, cond, not, eqb, ltb, ◌⊎◌, List, [], ◌∷◌, ◌++◌, map, length, get_or, take, drop, Some, None, Ok, Err, Option, Result, sym, refl, ap, ◌∙◌, subst, inl, inr, append_assoc, append-nil, suc-mul, zero-mul, arith, length-drop}
+use Rattle.std.proofs.Common.{◌≡◌, ℕ, zero, suc, ◌+◌, ◌*◌, ◌<◌, cond, not, eqb, ltb, List, [], ◌∷◌, ◌++◌, map, length, get_or, take, drop, Some, Ok, Err, Option, Result, sym, refl, ap, ◌∙◌, subst, append_assoc, append-nil, suc-mul, zero-mul, arith, length-drop}
 use Rattle.std.proofs.lemmas.List.{take-append-drop, drop-drop, get_or-map, take_at, drop_at}
-use Rattle.std.proofs.lemmas.Bool.{ne_eqb}
 use Rattle.std.specs.Option.{ok_or}
 use Rattle.std.specs.List.{AllByRecursion as All}
 use Rattle.faults.specs.declared.WireFault.TheVariants.{ShortScratch, WrongLength, ShortOutlet}
@@ -15,8 +14,6 @@ use Rattle.scalar.specs.Scalars.{scalar_code}
 use Rattle.group.specs.Model.{Model}
 use Rattle.group.specs.Elements.{null}
 use Rattle.group.specs.Theorems.{row}
-use Rattle.group.proofs.Logs.{log_null}
-use Rattle.group.proofs.Laws.{log_zero}
 use Rattle.voprf.specs.Blinding.{public_key, answered}
 use Rattle.voprf.specs.Proving.{proved}
 use Rattle.messages.specs.Answers.{ruled}
@@ -27,7 +24,7 @@ use Rattle.messages.proofs.Batches.{row_item}
 use Rattle.token.specs.Tokens.{then, is_null, element_of, key_of}
 use Rattle.station.specs.Answers.{of_wire, of_ring, of_group, of_batch}
 use Rattle.station.specs.Issuing.{of_item, Order, accepted, answer_codes, replied, issue_answer}
-use Rattle.history.proofs.Steps.{no_answer, false_true, then_ok, wire_ok, ring_ok, group_ok, batch_ok, some_ok, same_some}
+use Rattle.history.proofs.Steps.{no_answer, then_ok, wire_ok, ring_ok, batch_ok, some_ok, same_some}
 use Rattle.history.proofs.Worth.{not_null, null_not}
 
 item_ok : {T : Type 0} (i : ℕ) (r : Result T GroupFault) (x : T) → of_item i r ≡ Ok x → r ≡ Ok x

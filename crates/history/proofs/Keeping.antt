@@ -1,12 +1,12 @@
 -- A station holds what its history says: the keys of the open epochs, the highest epoch, and the pairs in use.
-use Rattle.std.proofs.Common.{◌≡◌, ℕ, suc, ◌+◌, ◌-◌, ◌<◌, ◌≤◌, max, Bool, true, false, cond, eqb, leb, ◌⊎◌, List, [], ◌∷◌, ◌++◌, length, Some, None, Ok, Err, filter, Option, Result, sym, refl, ap, ◌∙◌, subst, inl, inr, ⊎_elim, arith}
+use Rattle.std.proofs.Common.{◌≡◌, ℕ, ◌+◌, ◌-◌, ◌<◌, ◌≤◌, max, Bool, true, false, cond, eqb, List, [], ◌∷◌, length, Some, None, Ok, filter, Option, sym, refl, ap, ◌∙◌, subst, inl, inr, ⊎_elim, arith}
 use native.Mathlib.Nat.{le-max_left, le-max_right, max-eq_left}
-use Rattle.std.proofs.lemmas.Bool.{eqb-true, eq-eqb, ne_eqb, cases_Bool}
+use Rattle.std.proofs.lemmas.Bool.{eqb-true, eq-eqb, ne_eqb}
 use Rattle.std.specs.List.{ContainsAt as Has, AllByRecursion as All}
 use Rattle.ring.specs.declared.Epoch.{Epoch}
-use Rattle.ring.specs.Places.{Place, key_in, closed, taken, full, open_count}
+use Rattle.ring.specs.Places.{Place, key_in, closed, taken, full}
 use Rattle.ring.proofs.Laws.{ring_laws}
-use Rattle.book.specs.Meaning.{Pair, Apart, Meaning, In, size_of, Exactly, Becomes, Alike, Cleared, Marked, Dropped}
+use Rattle.book.specs.Meaning.{Pair, Meaning, In, size_of, Alike, Cleared, Marked, Dropped}
 use Rattle.book.proofs.Sets.{has_here, has_there, has_cases, has_kept, passes_kept, kept_has, apart_none, apart_cons, apart_kept}
 use Rattle.book.proofs.Facts.{size_counts}
 use Rattle.history.specs.History.{present}

@@ -1,9 +1,9 @@
 -- A scratch above the length that suffices, and an outlet above the longest output, change no answer.
-use Rattle.std.proofs.Common.{◌≡◌, ℕ, ◌+◌, ◌-◌, ◌*◌, ◌<◌, ◌≤◌, min, Bool, cond, not, eqb, ltb, List, [], ◌∷◌, ◌++◌, length, take, drop, Ok, Err, Option, Result, sym, refl, ap, ◌∙◌, subst, ⊎_elim, append_assoc, arith, length-take-le, take_all}
+use Rattle.std.proofs.Common.{◌≡◌, ℕ, ◌-◌, ◌<◌, ◌≤◌, min, Bool, not, eqb, ltb, List, [], ◌∷◌, ◌++◌, length, take, drop, Ok, Err, Option, Result, sym, refl, ap, ◌∙◌, ⊎_elim, append_assoc, arith, length-take-le, take_all}
 use native.Mathlib.Nat.{min-eq_left, min-eq_right, min-le_right}
 use Rattle.std.proofs.lemmas.Nat.{mul-le}
 use Rattle.std.proofs.lemmas.List.{take_at}
-use Rattle.std.proofs.lemmas.Bool.{le-ltb, lt-ltb, cases_lt}
+use Rattle.std.proofs.lemmas.Bool.{le-ltb, cases_lt}
 use Rattle.std.specs.Option.{ok_or}
 use Rattle.faults.specs.declared.WireFault.{WireFault}
 use Rattle.faults.specs.declared.WireFault.TheVariants.{ShortScratch, WrongLength, WrongType, ShortOutlet}
@@ -16,11 +16,10 @@ use Rattle.messages.specs.Answers.{ruled, over}
 use Rattle.messages.specs.Messages.{Batch, read_request, read_token, reply_length, place}
 use Rattle.messages.proofs.Trips.{request_told}
 use Rattle.token.specs.Tokens.{then, key_of}
-use Rattle.book.specs.Meaning.{Pair}
 use Rattle.station.specs.Answers.{of_wire, of_ring, of_group, of_batch, counted, outlet_after, opening}
 use Rattle.station.specs.Issuing.{Order, accepted, replied, issue_answer}
 use Rattle.station.specs.Redeeming.{redeemable, authentic}
-use Rattle.history.specs.Events.{Told, bytes, refused}
+use Rattle.history.specs.Events.{bytes, refused}
 use Rattle.history.specs.Law.{bytes_told}
 
 -- a bound that is at least what is asked for

@@ -1,25 +1,23 @@
 -- What a shop sent fits every token of the epoch, and a redeem accepts exactly the tokens that it must.
-use Rattle.std.proofs.Common.{◌≡◌, ℕ, ◌<◌, ◌≤◌, Bool, true, false, cond, ◌⊎◌, List, [], ◌∷◌, ◌++◌, length, take, drop, Some, None, Ok, Err, filter, Option, Result, sym, refl, ap, ◌∙◌, subst, inl, inr, arith}
-use Rattle.std.specs.List.{ContainsAt as Has, AllByRecursion as All}
+use Rattle.std.proofs.Common.{◌≡◌, ℕ, ◌≤◌, List, [], ◌∷◌, take, drop, Some, Ok, Err, Result, sym, refl, ap, ◌∙◌, subst, inl, inr, arith}
+use Rattle.std.specs.List.{ContainsAt as Has}
 use Rattle.faults.specs.declared.StationFault.{StationFault}
 use Rattle.group.specs.Model.{Model}
-use Rattle.group.specs.Elements.{null}
 use Rattle.group.proofs.Laws.{unblinds, one_scalar}
 use Rattle.hashing.specs.Hashing.{hash_to_group, authenticator}
 use Rattle.voprf.specs.Blinding.{blinded, answered, unblinded, direct}
-use Rattle.messages.specs.Messages.{Parts, token_in, read_token, epoch_in}
+use Rattle.messages.specs.Messages.{Parts, epoch_in}
 use Rattle.token.specs.Tokens.{Good}
 use Rattle.book.specs.Meaning.{Pair, Exactly}
 use Rattle.book.proofs.Sets.{has_kept, kept_has}
 use Rattle.station.specs.Redeeming.{redeemable}
-use Rattle.history.specs.declared.calls.Call.{Call}
 use Rattle.history.specs.declared.calls.Call.TheVariants.{Count, Redeem}
-use Rattle.history.specs.Events.{Told, done, refused, Event, event, did, issues}
-use Rattle.history.specs.History.{pair_of, spent, present, Accepted, Issued, open_key, counted}
-use Rattle.history.specs.Law.{Item, ItemOf, Answered, Beside, Turns, Unblinds, OneBlinding, Unlinkable, Judged, RedeemTells, Worthy, RedeemsOnce, Counts, AllRight}
+use Rattle.history.specs.Events.{Told, done, Event, event}
+use Rattle.history.specs.History.{pair_of, spent, present, Issued, open_key, counted}
+use Rattle.history.specs.Law.{Item, Answered, Beside, Turns, Unlinkable, Judged, RedeemTells, Worthy, RedeemsOnce, Counts}
 use Rattle.history.specs.Kept.{SoFar}
 use Rattle.history.proofs.Worth.{read_is, worth_in, worth_out}
-use Rattle.history.proofs.Deeds.{law_rest, all_right, Apt, apt, Opened, open_opened, one_key, accepted_good, refused_done, apt_redeem}
+use Rattle.history.proofs.Deeds.{all_right, Apt, apt, Opened, open_opened, one_key, accepted_good, refused_done, apt_redeem}
 use Rattle.history.proofs.Items.{Real, Replied, issue_ok, answer_at}
 
 module _ {E S K : Type 0} (m : Model E S K) (places : ℕ) where

@@ -1,9 +1,8 @@
 -- One call more: the station still holds what its history says, and the history is lawful.
-use Rattle.std.proofs.Common.{◌≡◌, ℕ, suc, ◌+◌, ◌-◌, ◌<◌, ◌≤◌, max, Bool, true, false, cond, eqb, leb, List, [], ◌∷◌, ◌++◌, length, Some, None, Ok, Err, filter, Option, Result, sym, refl, ap, ◌∙◌, subst, arith, Bor}
+use Rattle.std.proofs.Common.{◌≡◌, ℕ, ◌<◌, false, cond, eqb, leb, List, [], ◌∷◌, length, Some, None, Ok, Err, filter, Option, Result, sym, refl, ap, ◌∙◌, subst, arith, Bor}
 use Rattle.std.proofs.lemmas.Bool.{leb-false}
 use Rattle.std.specs.List.{ContainsAt as Has}
-use Rattle.faults.specs.declared.RingFault.{RingFault}
-use Rattle.faults.specs.declared.RingFault.TheVariants.{NotAbove, AllOpen, NotOpen}
+use Rattle.faults.specs.declared.RingFault.TheVariants.{NotAbove, AllOpen}
 use Rattle.faults.specs.declared.BookFault.{BookFault}
 use Rattle.faults.specs.declared.BookFault.TheVariants.{Spent, Full}
 use Rattle.faults.specs.declared.StationFault.{StationFault}
@@ -13,19 +12,17 @@ use Rattle.messages.specs.Messages.{epoch_in}
 use Rattle.messages.proofs.Ruled.{passes}
 use Rattle.token.specs.Tokens.{key_of}
 use Rattle.ring.specs.declared.Ring.{Ring}
-use Rattle.ring.specs.Places.{Place, places, key_in, full, taken, closed, admits}
-use Rattle.book.specs.Meaning.{Pair, Meaning, In, size_of, Alike, Marked, Dropped}
+use Rattle.ring.specs.Places.{Place, places, key_in, full, admits}
+use Rattle.book.specs.Meaning.{Pair, Meaning, In, size_of, Alike, Marked}
 use Rattle.station.specs.Answers.{opening, published, places_after, latest_after}
 use Rattle.station.specs.Issuing.{issue_answer}
-use Rattle.station.specs.Redeeming.{redeemable, Spends, Redeems, Closes, closed_places}
-use Rattle.history.specs.declared.calls.Call.{Call}
+use Rattle.station.specs.Redeeming.{redeemable, Redeems, Closes, closed_places}
 use Rattle.history.specs.declared.calls.Call.TheVariants.{Count, Open, Close, Issue, Redeem}
-use Rattle.history.specs.Events.{Told, done, number, bytes, refused, Event, event, Deed, opens, closes, issues, accepts, nothing, deed, did}
+use Rattle.history.specs.Events.{Told, done, number, bytes, refused, Event, event, Deed, deed}
 use Rattle.history.specs.History.{pair_of, highest_after, highest, number_after, open_number, admission, pairs_after, spent, key_told, key_after, open_key, counted}
 use Rattle.history.specs.Law.{bytes_told, drop_told, Judged, RedeemTells, Right}
 use Rattle.history.specs.Told.{number_told, done_told}
-use Rattle.history.specs.Kept.{Tied, SoFar, Kept}
-use Rattle.history.proofs.Steps.{no_answer, none_some}
+use Rattle.history.specs.Kept.{Tied, Kept}
 use Rattle.history.proofs.Worth.{worth_in}
 use Rattle.history.proofs.Deeds.{opening_ok}
 use Rattle.history.proofs.Places.{full_count}

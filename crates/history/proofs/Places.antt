@@ -1,10 +1,10 @@
 -- The places of a ring: how often an epoch stands there, and how many are open.
-use Rattle.std.proofs.Common.{◌≡◌, ℕ, suc, ◌+◌, ◌<◌, ◌≤◌, Bool, true, false, cond, eqb, leb, ◌⊎◌, List, [], ◌∷◌, length, Some, None, Option, sym, refl, ap, ◌∙◌, subst, inl, inr, ⊎_elim, arith}
-use Rattle.std.proofs.lemmas.Bool.{eqb-true, eq-eqb, le-leb, lt-leb, cases_lt}
+use Rattle.std.proofs.Common.{◌≡◌, ℕ, suc, ◌+◌, ◌<◌, ◌≤◌, Bool, true, false, cond, eqb, leb, ◌⊎◌, List, [], ◌∷◌, length, Some, None, Option, sym, refl, ap, ◌∙◌, inl, inr, ⊎_elim, arith}
+use Rattle.std.proofs.lemmas.Bool.{le-leb, lt-leb, cases_lt}
 use Rattle.ring.specs.declared.Epoch.{Epoch}
 use Rattle.ring.specs.Places.{Place, held, or_else, key_in, freed, closed, taken, full, open_count}
 use Rattle.history.specs.Kept.{stands, times}
-use Rattle.history.proofs.Steps.{false_true, none_some}
+use Rattle.history.proofs.Steps.{none_some}
 
 leb_suc : (a b : ℕ) → leb a b ≡ leb (suc a) (1 + b)
 leb_suc a b =

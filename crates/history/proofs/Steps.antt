@@ -1,11 +1,10 @@
 -- Steps one after another: what is known of each where all of them answered.
-use Rattle.std.proofs.Common.{◌≡◌, ℕ, true, false, Some, None, Ok, Err, Option, Result, sym, refl, ap, ◌∙◌, arith}
+use Rattle.std.proofs.Common.{◌≡◌, ℕ, true, false, Some, None, Ok, Err, Option, Result, refl, ap, arith}
 use Rattle.std.specs.Option.{ok_or}
 use Rattle.faults.specs.declared.WireFault.{WireFault}
 use Rattle.faults.specs.declared.RingFault.{RingFault}
 use Rattle.faults.specs.declared.GroupFault.{GroupFault}
 use Rattle.faults.specs.declared.BatchFault.{BatchFault}
-use Rattle.faults.specs.declared.StationFault.{StationFault}
 use Rattle.token.specs.Tokens.{then}
 use Rattle.station.specs.Answers.{of_wire, of_ring, of_group, of_batch}
 

@@ -1,6 +1,6 @@
 -- A redeem finds nothing wrong with a token exactly where it is good under the key of its epoch.
-use Rattle.std.proofs.Common.{◌≡◌, ℕ, ◌≤◌, Bool, true, false, not, eqb, ltb, List, [], ◌∷◌, length, take, drop, Some, None, Ok, Err, Option, Result, sym, refl, ap, ◌∙◌, subst, arith}
-use Rattle.std.proofs.lemmas.Bool.{eq-eqb, eqb-true, ne_eqb, le-ltb, not-false, not_from_true}
+use Rattle.std.proofs.Common.{◌≡◌, ℕ, ◌≤◌, Bool, true, false, not, eqb, ltb, List, [], ◌∷◌, length, take, Some, Ok, Option, Result, sym, ap, ◌∙◌}
+use Rattle.std.proofs.lemmas.Bool.{eq-eqb, ne_eqb, le-ltb, not-false, not_from_true}
 use Rattle.std.specs.Option.{ok_or}
 use Rattle.faults.specs.declared.WireFault.TheVariants.{ShortScratch, WrongType, WrongLength}
 use Rattle.faults.specs.declared.RingFault.TheVariants.{NotOpen}
@@ -23,7 +23,7 @@ use Rattle.station.specs.Answers.{of_wire, of_ring}
 use Rattle.station.specs.Redeeming.{same, authentic, redeemable}
 use Rattle.station.proofs.Sameness.{same_true, same_refl}
 use Rattle.history.specs.History.{pair_of}
-use Rattle.history.proofs.Steps.{no_answer, false_true, then_ok, wire_ok, ring_ok, some_ok}
+use Rattle.history.proofs.Steps.{false_true, then_ok, wire_ok, ring_ok, some_ok}
 
 pub read_is : (bytes : List ℕ) (t : Parts) → read_token bytes ≡ Ok t → token_in bytes ≡ t
 unfolding read_token

@@ -1,6 +1,6 @@
 -- What a history tells, the latest event first: which epochs are open under which keys, and which tokens were
 -- accepted.
-use Rattle.std.specs.Prelude.{◌≡◌, ℕ, ◌+◌, ◌-◌, ◌≤◌, max, Bool, true, false, cond, ◌⊎◌, List, [], ◌∷◌, length, take, drop, Some, None, Ok, Err, filter, Option, Result, ◌==◌, nat_le}
+use Rattle.std.specs.Prelude.{◌≡◌, ℕ, ◌+◌, ◌-◌, max, Bool, true, false, cond, ◌⊎◌, List, [], ◌∷◌, take, drop, Some, None, Ok, Err, filter, Option, Result, ◌==◌, nat_le}
 use Rattle.faults.specs.declared.GroupFault.{GroupFault}
 use Rattle.faults.specs.declared.RingFault.{RingFault}
 use Rattle.faults.specs.declared.RingFault.TheVariants.{NotAbove, AllOpen}

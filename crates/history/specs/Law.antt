@@ -119,9 +119,9 @@ module _ {E S K : Type 0} (m : Model E S K) where
       (later before : List Event) (ev : Event) (request reply : List ℕ) → h ≡ later ++ (ev ∷ before) → did ev ≡ issues request reply
       → (key : K) (epoch : ℕ) → open_key m before epoch ≡ Some key → epoch < 65536
       → (seeds blinds : List ℕ) (scratch outlet : ℕ) → blind_answer m scratch epoch (m.code (public_key m key)) seeds blinds outlet ≡ Ok request
-      → (full-scratch full-outlet : ℕ) → 1024 ≤ full-scratch → 132 * (length seeds / 64) ≤ full-outlet
+      → (full_scratch full_outlet : ℕ) → 1024 ≤ full_scratch → 132 * (length seeds / 64) ≤ full_outlet
       → (tokens : List ℕ)
-      × (finish_answer m full-scratch epoch (length seeds / 64) (m.code (public_key m key)) seeds blinds reply full-outlet ≡ Ok tokens)
+      × (finish_answer m full_scratch epoch (length seeds / 64) (m.code (public_key m key)) seeds blinds reply full_outlet ≡ Ok tokens)
       × GoodTokens m key epoch seeds (length seeds / 64) tokens
 
   -- ---- what each call must tell after what came before it: the one answer of its checks, in their order

@@ -8,7 +8,7 @@
 ghost use Rattle.std.specs.Prelude.{◌≡◌};
 ghost use Rattle.circ523.specs.Kind.{points};
 ghost use Rattle.res2039.specs.Kind.{residues};
-ghost use Rattle.host.specs.Told.{told as told-by, Tells};
+ghost use Rattle.host.specs.Told.{told as told_by, Tells};
 
 use circ523::Point;
 use faults::{Fault, WireFault};
@@ -17,7 +17,7 @@ use res2039::Residue;
 
 // Tries to decode, in any kind of group.
 fn told<G: Group>(code: &[u8]) -> u8
-    ensures answer { result ≡ told-by G.model code.now }
+    ensures answer { result ≡ told_by G.model code.now }
     ensures meaning { Tells G.model code.now result }
 {
     if code.len() != G::element_width() {
@@ -32,7 +32,7 @@ fn told<G: Group>(code: &[u8]) -> u8
 // res2039: 2 bytes.
 #[unsafe(no_mangle)]
 pub extern "C" fn dilkortxi_res2039_decode(code: &[u8]) -> u8
-    ensures answer { result ≡ told-by residues code.now }
+    ensures answer { result ≡ told_by residues code.now }
     ensures meaning { Tells residues code.now result }
 {
     told::<Residue>(code)
@@ -41,7 +41,7 @@ pub extern "C" fn dilkortxi_res2039_decode(code: &[u8]) -> u8
 // circ523: 4 bytes.
 #[unsafe(no_mangle)]
 pub extern "C" fn dilkortxi_circ523_decode(code: &[u8]) -> u8
-    ensures answer { result ≡ told-by points code.now }
+    ensures answer { result ≡ told_by points code.now }
     ensures meaning { Tells points code.now result }
 {
     told::<Point>(code)

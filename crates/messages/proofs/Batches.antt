@@ -1,6 +1,6 @@
 -- Batches of elements: what is written is read, what is read was written, and where each code stands.
-use Rattle.std.proofs.Common.{◌≡◌, ℕ, zero, suc, ◌+◌, ◌-◌, ◌*◌, ◌/◌, ◌<◌, ◌≤◌, cond, ltb, List, [], ◌∷◌, ◌++◌, length, get_or, take, drop, Some, None, Ok, Err, Option, Result, sym, refl, ap, ◌∙◌, subst, append_assoc, append-nil, suc-mul, add_comm, zero-mul, arith, length-append, length-drop, drop-drop, take_at, drop_at}
-use Rattle.std.proofs.lemmas.List.{take-append-drop, drop_all, length-take-le}
+use Rattle.std.proofs.Common.{◌≡◌, ℕ, zero, suc, ◌+◌, ◌*◌, ◌/◌, ◌<◌, cond, List, [], ◌∷◌, ◌++◌, length, get_or, take, drop, Some, None, Ok, Err, Option, Result, sym, refl, ap, ◌∙◌, append_assoc, append-nil, suc-mul, add_comm, zero-mul, arith, length-append, length-drop, drop-drop, take_at, drop_at}
+use Rattle.std.proofs.lemmas.List.{take-append-drop, drop_all}
 use Rattle.std.proofs.lemmas.Bool.{lt-ltb}
 use Rattle.faults.specs.declared.WireFault.{WireFault}
 use Rattle.scalar.specs.Scalars.{scalar_code, scalar_of}
@@ -9,7 +9,7 @@ use Rattle.group.specs.Model.{Model, Bytes}
 use Rattle.group.specs.Weighted.{put, led, elements}
 use Rattle.group.specs.Theorems.{row}
 use Rattle.group.proofs.Weighing.{row_length, elements_row, length_quotient}
-use Rattle.messages.specs.Messages.{Batch, Answers, batch_of, answers_of, read_request, read_reply, request_bytes, reply_bytes, written_request, written_reply, request_length, reply_length, header_of, split_reply, place, code_in, item_at}
+use Rattle.messages.specs.Messages.{Batch, Answers, batch_of, answers_of, read_request, read_reply, reply_bytes, written_request, written_reply, request_length, reply_length, header_of, split_reply, place, code_in, item_at}
 use Rattle.messages.specs.Laws.{batch_from, request_from, request_batch, answers_from, reply_from, reply_batch, Sized, RoundTrip, OneEncoding, Placed}
 use Rattle.messages.proofs.Reading.{split_whole}
 use Rattle.messages.proofs.Writing.{request_bytes_length, reply_bytes_length}

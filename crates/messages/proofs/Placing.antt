@@ -1,5 +1,5 @@
 -- Codes in a row: where the code of each item begins and ends.
-use Rattle.std.proofs.Common.{◌≡◌, ℕ, zero, suc, ◌+◌, ◌-◌, ◌*◌, ◌/◌, ◌<◌, ◌≤◌, cond, ltb, List, [], ◌∷◌, ◌++◌, length, take, drop, Some, None, sym, refl, ap, ◌∙◌, subst, mul-le-mul_right, suc-mul, mul_comm, zero-mul, arith}
+use Rattle.std.proofs.Common.{◌≡◌, ℕ, ◌+◌, ◌-◌, ◌*◌, ◌/◌, ◌<◌, ◌≤◌, cond, List, length, take, drop, Some, None, sym, ap, ◌∙◌, subst, mul-le-mul_right, suc-mul, mul_comm, arith}
 use native.Mathlib.Nat.{mod-add-div, add-sub_cancel_left}
 use Rattle.std.proofs.lemmas.Bool.{lt-ltb, le-ltb}
 use Rattle.group.specs.Model.{Model}

@@ -1,13 +1,13 @@
 -- The readers: what each part of a message makes them answer.
-use Rattle.std.proofs.Common.{◌≡◌, ℕ, ◌+◌, ◌-◌, ◌*◌, ◌<◌, ◌≤◌, Bool, true, false, cond, not, ◌||◌, eqb, ltb, ◌⊎◌, List, [], ◌∷◌, ◌++◌, length, get_or, take, drop, Ok, Err, Result, sym, refl, ap, ◌∙◌, subst, ⊎_elim, arith, length-drop, drop-drop}
+use Rattle.std.proofs.Common.{◌≡◌, ℕ, ◌+◌, ◌*◌, ◌<◌, ◌≤◌, Bool, true, false, cond, not, eqb, ltb, ◌⊎◌, List, [], ◌∷◌, length, take, drop, Ok, Err, sym, ap, ◌∙◌, ⊎_elim, arith, length-drop, drop-drop}
 use Rattle.std.proofs.lemmas.Bool.{ltb-false, lt-ltb, le-ltb, eq-eqb, ne_eqb, or_left, or_right, or_from, or_parts, eqb-false}
 use Rattle.faults.specs.declared.WireFault.{WireFault}
-use Rattle.faults.specs.declared.WireFault.TheVariants.{WrongLength, WrongType, WrongCount, ShortOutlet}
+use Rattle.faults.specs.declared.WireFault.TheVariants.{WrongLength, WrongType, WrongCount}
 use Rattle.group.specs.Model.{Model}
 use Rattle.messages.specs.Answers.{ruled}
 use Rattle.messages.specs.Messages.{Batch, Answers, kind_in, epoch_in, count_in, header_in, header_of, no_count, front_checks, front_of, place, request_length, reply_length, read_request, read_reply, split_reply, token_in, read_token}
 use Rattle.messages.specs.declared.Header.{Header}
-use Rattle.messages.proofs.Ruled.{Passes, after, passed, stopped, passes, ruled_after, same_answer, equal_passes, unequal_stops, passed_equal}
+use Rattle.messages.proofs.Ruled.{after, passed, stopped, passes, ruled_after, same_answer, equal_passes, unequal_stops, passed_equal}
 
 -- the length of a header decides what it is read as
 pub header_short : (bytes : List ℕ) → length bytes < 5 → header_of bytes ≡ Err WrongLength

@@ -1,16 +1,16 @@
 -- Readers after writers and writers after readers, on bytes.
-use Rattle.std.proofs.Common.{◌≡◌, ℕ, zero, suc, ◌+◌, ◌-◌, ◌*◌, ◌/◌, ◌%◌, ◌<◌, ◌≤◌, Bool, true, false, cond, not, eqb, ltb, List, [], ◌∷◌, ◌++◌, length, get_or, take, drop, Ok, Err, Result, sym, refl, ap, ◌∙◌, subst, append_assoc, mod-eq_of_lt, arith, length-append, length-drop, length-take, drop-drop, take_at, drop_at}
+use Rattle.std.proofs.Common.{◌≡◌, ℕ, ◌+◌, ◌*◌, ◌/◌, ◌%◌, ◌<◌, ◌≤◌, Bool, not, eqb, List, [], ◌∷◌, ◌++◌, length, take, drop, Ok, sym, ap, ◌∙◌, subst, mod-eq_of_lt, arith, length-append, length-drop, drop-drop, take_at, drop_at}
 use native.Mathlib.Nat.{mod-add-div}
-use Rattle.std.proofs.lemmas.List.{take-append-drop, take_all, length-take-le}
-use Rattle.std.proofs.lemmas.Bool.{ltb-false, le-ltb}
+use Rattle.std.proofs.lemmas.List.{take-append-drop, length-take-le}
+use Rattle.std.proofs.lemmas.Bool.{le-ltb}
 use Rattle.std.proofs.lemmas.Nat.{div-mul-add, mod-mul-add}
 use Rattle.faults.specs.declared.WireFault.{WireFault}
 use Rattle.faults.specs.declared.WireFault.TheVariants.{WrongLength}
 use Rattle.numbers.specs.Bytes.{two_bytes}
 use Rattle.group.specs.Model.{Model, Bytes}
 use Rattle.messages.specs.Answers.{ruled}
-use Rattle.messages.specs.Messages.{Batch, Answers, Parts, kind_in, epoch_in, count_in, header_of, front_checks, place, request_length, reply_length, head_bytes, request_bytes, reply_bytes, read_request, read_reply}
-use Rattle.messages.proofs.Ruled.{Passes, passed, passes, equal_passes, passed_equal, same_answer}
+use Rattle.messages.specs.Messages.{Batch, Answers, kind_in, epoch_in, count_in, header_of, front_checks, place, request_length, reply_length, head_bytes, request_bytes, reply_bytes, read_request, read_reply}
+use Rattle.messages.proofs.Ruled.{passed, passes, equal_passes, passed_equal, same_answer}
 use Rattle.messages.proofs.Reading.{header_whole, counted, counts}
 use Rattle.messages.proofs.Writing.{high_byte}
 

@@ -1,5 +1,5 @@
 -- The writers: what parts that are put one behind the other leave in an outlet.
-use Rattle.std.proofs.Common.{◌≡◌, ℕ, ◌+◌, ◌-◌, ◌*◌, ◌/◌, ◌%◌, ◌<◌, ◌≤◌, Bool, true, false, not, eqb, ltb, ◌⊎◌, List, [], ◌∷◌, ◌++◌, length, take, drop, Ok, Err, Result, sym, refl, ap, ◌∙◌, subst, ⊎_elim, append_assoc, append-nil, mod-eq_of_lt, arith, length-append, take_at}
+use Rattle.std.proofs.Common.{◌≡◌, ℕ, ◌+◌, ◌*◌, ◌/◌, ◌%◌, ◌<◌, ◌≤◌, Bool, true, false, not, eqb, ltb, ◌⊎◌, List, [], ◌∷◌, ◌++◌, length, take, drop, Ok, Err, Result, sym, refl, ap, ◌∙◌, ⊎_elim, append_assoc, append-nil, mod-eq_of_lt, arith, length-append, take_at}
 use Rattle.std.proofs.lemmas.Slice.{drop-append-drop}
 use Rattle.std.proofs.lemmas.List.{drop_all}
 use Rattle.std.proofs.lemmas.Nat.{div_below}
@@ -8,9 +8,9 @@ use Rattle.std.proofs.lemmas.Bool.{lt-ltb, le-ltb}
 use Rattle.faults.specs.declared.WireFault.{WireFault}
 use Rattle.faults.specs.declared.WireFault.TheVariants.{WrongLength, WrongCount, ShortOutlet}
 use Rattle.group.specs.Model.{Model}
-use Rattle.messages.specs.Answers.{ruled, over, Put}
+use Rattle.messages.specs.Answers.{over, Put}
 use Rattle.messages.specs.Messages.{Batch, Answers, no_count, head_bytes, place, request_length, reply_length, request_bytes, reply_bytes, writes_request, writes_reply, writes_token, token_input_of, token_input_bytes, token_bytes}
-use Rattle.messages.proofs.Ruled.{Passes, passed, stops, equal_passes, unequal_stops}
+use Rattle.messages.proofs.Ruled.{passed, stops, equal_passes, unequal_stops}
 
 -- nothing written yet
 pub over_none : (old : List ℕ) → old ≡ over [] old

@@ -1,6 +1,6 @@
 -- What readers and writers are to one another, for every kind of group. A batch is an epoch and elements; with a
 -- reply come the two scalars of its proof.
-use Rattle.std.specs.Prelude.{◌≡◌, ℕ, ◌+◌, ◌<◌, ◌≤◌, List, ◌++◌, length, take, drop, Some, None, Ok, Err, Option, Result, slice_index_or}
+use Rattle.std.specs.Prelude.{◌≡◌, ℕ, ◌<◌, ◌≤◌, List, ◌++◌, length, take, drop, Some, None, Ok, Err, Option, Result, slice_index_or}
 use Rattle.faults.specs.declared.WireFault.{WireFault}
 use Rattle.scalar.specs.Scalars.{scalar_code, scalar_of}
 use Rattle.group.specs.Model.{Model, Bytes}

@@ -1,5 +1,5 @@
 -- The bytes that travel, for every kind of group. Numbers of several bytes have the high byte first.
-use Rattle.std.specs.Prelude.{◌≡◌, ℕ, ◌+◌, ◌*◌, ◌/◌, Bool, cond, not, ◌||◌, List, [], ◌∷◌, ◌++◌, length, take, drop, Some, None, Ok, Err, Option, Result, ◌==◌, nat_lt, slice_index}
+use Rattle.std.specs.Prelude.{ℕ, ◌+◌, ◌*◌, ◌/◌, Bool, cond, not, ◌||◌, List, [], ◌∷◌, ◌++◌, length, take, drop, Some, None, Ok, Option, Result, ◌==◌, nat_lt, slice_index}
 use Rattle.faults.specs.declared.WireFault.{WireFault}
 use Rattle.faults.specs.declared.WireFault.TheVariants.{WrongLength, WrongType, WrongCount, ShortOutlet}
 use Rattle.numbers.specs.Bytes.{two_bytes}

@@ -11,7 +11,7 @@
 
 ghost use Rattle.std.specs.Prelude.{◌≡◌, ℕ, ◌+◌, ◌*◌, ◌≤◌, List, length, take, IfOk};
 ghost use Rattle.messages.specs.Answers.{Put, laid};
-ghost use Rattle.messages.specs.Messages.{header_of, front_of, read_request as request-read, read_reply as reply_read, split_reply as reply-split, request_length, reply_length, item_at, head_bytes, request_bytes, reply_bytes, token_input_of, token_bytes, read_token as token-read, writes_request, writes_reply, writes_token};
+ghost use Rattle.messages.specs.Messages.{header_of, front_of, read_request as request_read, read_reply as reply_read, split_reply as reply_split, request_length, reply_length, item_at, head_bytes, request_bytes, reply_bytes, token_input_of, token_bytes, read_token as token_read, writes_request, writes_reply, writes_token};
 ghost use Rattle.messages.specs.Laws.{RoundTrip, OneEncoding, Placed, TokenTrip};
 ghost use Rattle.messages.specs.Views.{header_seen, request_seen, reply_seen, split_seen, item_seen, token_seen, batch, answers};
 
@@ -94,7 +94,7 @@ fn batch_front<G: Group>(message: &[u8]) -> Result<(Header, &[u8]), WireFault>
 
 // Reads a request.
 pub fn read_request<G: Group>(message: &[u8]) -> Result<Request<'_>, WireFault>
-    ensures { request_seen result ≡ request-read G.model message.now }
+    ensures { request_seen result ≡ request_read G.model message.now }
 {
     let (front, rest) = batch_front::<G>(message)?;
     if rest.len() != front.count as usize * G::element_width() {
@@ -109,7 +109,7 @@ pub fn read_request<G: Group>(message: &[u8]) -> Result<Request<'_>, WireFault>
 
 // Parts what comes after the front of a reply of so many items: the codes, c and s.
 pub fn split_reply<G: Group>(count: u8, rest: &[u8]) -> Result<(&[u8], &[u8], &[u8]), WireFault>
-    ensures { split_seen result ≡ reply-split G.model count rest.now }
+    ensures { split_seen result ≡ reply_split G.model count rest.now }
 {
     let codes = count as usize * G::element_width();
     let width = G::scalar_width();
@@ -257,7 +257,7 @@ pub fn token_input(
 
 // Reads a token.
 pub fn read_token(bytes: &[u8]) -> Result<Token<'_>, WireFault>
-    ensures fields { token_seen result ≡ token-read bytes.now }
+    ensures fields { token_seen result ≡ token_read bytes.now }
     ensures input { IfOk result (λ t. t.input.now ≡ take 100 bytes.now) }
 {
     if bytes.len() != 132 {

@@ -1,5 +1,5 @@
 -- Which epochs are open, each with its key: four places, and the highest epoch that was ever opened.
-use Rattle.std.specs.Prelude.{◌≡◌, ℕ, ◌+◌, ◌<◌, ◌≤◌, Bool, true, false, cond, List, [], ◌∷◌, Some, None, Ok, Err, Option, Result, ◌==◌, nat_le}
+use Rattle.std.specs.Prelude.{ℕ, ◌+◌, Bool, true, false, cond, List, [], ◌∷◌, Some, None, Ok, Err, Option, Result, ◌==◌, nat_le}
 use Rattle.faults.specs.declared.RingFault.{RingFault}
 use Rattle.faults.specs.declared.RingFault.TheVariants.{NotAbove, AllOpen}
 use Rattle.ring.specs.declared.Epoch.{Epoch}

@@ -1,6 +1,6 @@
 -- The code of a scalar, for all that are scalars: it decodes to the scalar, and no other bytes do.
-use Rattle.std.proofs.Common.{◌≡◌, ℕ, ◌%◌, ◌^◌, ◌<◌, ◌≤◌, Bool, true, false, cond, ◌&&◌, eqb, ltb, List, length, Some, None, Option, sym, refl, ap, ◌∙◌, subst, mod-eq_of_lt, arith}
-use Rattle.std.proofs.lemmas.Bool.{lt-ltb, eq-eqb, ltb-true, eqb-true, and_from, and_parts, cond-true, cond-false, cases_Bool}
+use Rattle.std.proofs.Common.{◌≡◌, ℕ, ◌^◌, ◌<◌, Bool, true, false, cond, ◌&&◌, eqb, ltb, List, length, Some, None, sym, refl, ap, ◌∙◌, subst, mod-eq_of_lt, arith}
+use Rattle.std.proofs.lemmas.Bool.{lt-ltb, eq-eqb, ltb-true, eqb-true, and_from, and_parts, cond-true}
 use Rattle.numbers.specs.Bytes.{are_bytes, read, written}
 use Rattle.numbers.proofs.Bytes.{length_written, bytes_written, read_written, written_read, bytes_below, below_bytes}
 use Rattle.scalar.specs.Scalars.{Scalars, scalar_code, scalar_of}

@@ -1,12 +1,11 @@
 -- What a word stands for, by how it begins. Assumes nothing.
-use Rattle.std.proofs.Common.{◌≡◌, ℕ, ◌/◌, ◌<◌, Bool, true, false, cond, eqb, List, [], ◌∷◌, length, get_or, drop, Ok, Err, codes, Result, sym, refl, ap, ◌∙◌, arith}
+use Rattle.std.proofs.Common.{◌≡◌, ℕ, ◌/◌, Bool, true, false, cond, eqb, List, [], length, get_or, drop, Ok, Err, codes, Result, ap, ◌∙◌}
 use Rattle.std.proofs.lemmas.Bool.{eq-eqb, ne_eqb}
 use Rattle.std.specs.Str.{bytes_eq}
 use Rattle.text.specs.Decimals.{numeral}
 use Rattle.text.specs.Hexadecimal.{reading}
 use Rattle.text.specs.declared.decimal.NumberFault.{NumberFault}
-use Rattle.script.specs.Arguments.{Table, token_at, numbered, picked, recalled, as_bytes, argument}
-use Rattle.script.specs.declared.errors.LineFault.{LineFault}
+use Rattle.script.specs.Arguments.{Table, numbered, picked, recalled, as_bytes, argument}
 use Rattle.script.specs.declared.errors.LineFault.TheVariants.{UnknownName}
 use Rattle.script.proofs.Table.{same, differ}
 

@@ -1,9 +1,8 @@
 -- The first entry with a name, and what a table holds after a change. Assumes nothing.
-use Rattle.std.proofs.Common.{◌≡◌, ℕ, zero, suc, ◌<◌, Bool, true, false, cond, List, [], ◌∷◌, ◌++◌, length, get_or, set, Some, None, vec_items, Option, sym, refl, ap, ◌∙◌, subst, arith}
+use Rattle.std.proofs.Common.{◌≡◌, ℕ, zero, suc, Bool, true, false, cond, List, [], ◌∷◌, ◌++◌, get_or, set, Some, None, vec_items, Option, sym, refl, ap, ◌∙◌, arith}
 use Rattle.std.proofs.lemmas.Slice.Eq.{bytes_eq-Decides}
-use Rattle.std.proofs.lemmas.Bool.{both_ways}
 use Rattle.std.specs.Str.{bytes_eq}
-use Rattle.script.specs.Kept.{found, Named, Located}
+use Rattle.script.specs.Kept.{found, Located}
 use Rattle.script.specs.declared.names.Entry.{Entry}
 
 pub same : (xs ys : List ℕ) → xs ≡ ys → bytes_eq xs ys ≡ true

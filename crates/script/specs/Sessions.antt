@@ -1,5 +1,5 @@
 -- What a line of a script does.
-use Rattle.std.specs.Prelude.{◌≡◌, ℕ, ◌+◌, cond, ◌⊎◌, List, [], ◌∷◌, Some, None, Ok, Err, Option, Result}
+use Rattle.std.specs.Prelude.{◌≡◌, ℕ, ◌+◌, cond, ◌⊎◌, List, Some, None, Ok, Err, Option, Result}
 use Rattle.commands.specs.Calls.{decode_in, map_in, base_in, input_in, direct_in}
 use Rattle.commands.specs.declared.Kind.{Kind}
 use Rattle.digest.specs.Sha256.{digested}

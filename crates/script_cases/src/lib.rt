@@ -31,7 +31,7 @@ mod tests {
         report.write(&mut line)?;
         assert!(rt;
             line.as_slice()
-                == b"digest: ok ba7816bf8f01cfea414140de5dae2223b00361a396177a9cb410ff61f20015ad"
+                == b"digest: ok ba7816bf8f01cfea414140de5dae2223b00361a396177a9cb410ff61f20015ad".as_slice()
         );
         Ok(())
     }

@@ -1,6 +1,6 @@
 -- Printed bytes are read back. Assumes nothing.
-use Rattle.std.proofs.Common.{◌≡◌, ℕ, ◌+◌, ◌/◌, ◌<◌, cond, ltb, List, [], ◌∷◌, get_or, codes, sym, refl, ap, ◌∙◌, arith}
-use Rattle.std.proofs.lemmas.Bool.{cond_both, ltb-true, ltb-false}
+use Rattle.std.proofs.Common.{◌≡◌, ℕ, ◌+◌, ◌/◌, ◌<◌, ltb, [], ◌∷◌, get_or, codes, refl, ap, ◌∙◌, arith}
+use Rattle.std.proofs.lemmas.Bool.{cond_both}
 use Rattle.text.proofs.Undoing.{reading_undoes_writing}
 use Rattle.text.specs.Hexadecimal.{digit, written}
 use Rattle.script_next.specs.Arguments.{as_bytes}

@@ -1,7 +1,6 @@
 -- What a work on a tape that answered says of the memory.
-use Rattle.std.proofs.Common.{◌≡◌, ℕ, ◌≤◌, Bool, true, false, cond, ltb, Ok, Err, Result, refl}
+use Rattle.std.proofs.Common.{◌≡◌, ℕ, ◌≤◌, Bool, true, false, cond, ltb, Ok, Err, refl}
 use Rattle.std.proofs.lemmas.Bool.{ltb-false}
-use Rattle.faults.specs.declared.WireFault.{WireFault}
 use Rattle.faults.specs.declared.WireFault.TheVariants.{WrongLength}
 use Rattle.book.specs.Meaning.{Meaning}
 use Rattle.book.specs.Making.{Worked}

@@ -68,7 +68,7 @@ fn tell<G: Group>(product: Result<G, GroupFault>, out: &mut [u8]) -> u8
     }
 }
 
-// typeof.s.P in res2039.
+// s·P in res2039.
 #[unsafe(no_mangle)]
 pub extern "C" fn dilkortxi_res2039_multiple(code: &[u8], scalar: &[u8], out: &mut [u8]) -> u8
     ensures status { result ≡ product_status residues (product residues code.now scalar.now) (length out.old) }
@@ -77,7 +77,7 @@ pub extern "C" fn dilkortxi_res2039_multiple(code: &[u8], scalar: &[u8], out: &m
     tell::<Residue>(product(code, scalar), out)
 }
 
-// typeof.s.P in circ523.
+// s·P in circ523.
 #[unsafe(no_mangle)]
 pub extern "C" fn dilkortxi_circ523_multiple(code: &[u8], scalar: &[u8], out: &mut [u8]) -> u8
     ensures status { result ≡ product_status points (product points code.now scalar.now) (length out.old) }

@@ -10,7 +10,7 @@ use Rattle.messages.specs.Messages.{Answers, reply_bytes, reply_length, writes_r
 use Rattle.messages.proofs.Reading.{counted}
 use Rattle.messages.proofs.Writing.{reply_fits}
 use Rattle.token.specs.Tokens.{then}
-use Rattle.station.specs.Answers.{of_batch, counted as counted-above, outlet_after}
+use Rattle.station.specs.Answers.{of_batch, counted as counted_above, outlet_after}
 use Rattle.station.specs.Issuing.{Order, accepted, answer_codes, replied, reply_counted, reply_laid, issue_answer}
 
 -- a reply of 1 to 16 codes and two scalars that fits its outlet is written
@@ -57,7 +57,7 @@ module _ {E S K : Type 0} (m : Model E S K) (scratch : ℕ) (key : ℕ → Optio
   issue_goes o e = ap (λ r. then r (λ o. of_batch (replied m o))) (sym e)
 
 -- a reply's length, and what it leaves in an outlet, are the same above and below
-pub same_count : (r : Result (List ℕ) BatchFault) → of_batch (reply_counted r) ≡ counted-above (of_batch r)
+pub same_count : (r : Result (List ℕ) BatchFault) → of_batch (reply_counted r) ≡ counted_above (of_batch r)
 same_count (Ok bytes) = refl
 same_count (Err f) = refl
 

@@ -1,5 +1,5 @@
 -- What the station's calls share: faults from below, what an outlet holds, and what `open` answers.
-use Rattle.std.specs.Prelude.{◌≡◌, ℕ, not, List, [], ◌∷◌, length, Ok, Err, Result, ◌==◌, nat_lt}
+use Rattle.std.specs.Prelude.{ℕ, not, List, [], ◌∷◌, length, Ok, Err, Result, ◌==◌, nat_lt}
 use Rattle.faults.specs.declared.WireFault.{WireFault}
 use Rattle.faults.specs.declared.WireFault.TheVariants.{ShortScratch, WrongLength, ShortOutlet}
 use Rattle.faults.specs.declared.RingFault.{RingFault}
@@ -11,9 +11,7 @@ use Rattle.group.specs.Model.{Model}
 use Rattle.voprf.specs.Blinding.{public_key}
 use Rattle.messages.specs.Answers.{ruled, over}
 use Rattle.token.specs.Tokens.{then, key_of}
-use Rattle.ring.specs.declared.Epoch.{Epoch}
-use Rattle.ring.specs.declared.Ring.{Ring}
-use Rattle.ring.specs.Places.{Place, places, taken}
+use Rattle.ring.specs.Places.{Place, taken}
 
 -- a fault from below, kept whole inside the station's
 abbrev pub of_wire : {T : Type 0} → Result T WireFault → Result T StationFault

@@ -1,7 +1,7 @@
 // The checks of an opening.
 ghost use Rattle.std.specs.Prelude.{◌≡◌, ◌≤◌, length, OnOk};
 ghost use Rattle.ring.specs.Places.{admits};
-ghost use Rattle.station.specs.Answers.{opening as opened-by};
+ghost use Rattle.station.specs.Answers.{opening as opened_by};
 
 use faults::{StationFault, WireFault};
 use group::Group;
@@ -17,7 +17,7 @@ pub fn admitted_key<G: Group>(
     key: &[u8],
     outlet: usize,
 ) -> Result<G::NonZero, StationFault>
-    ensures answer { result ≡ opened-by G.model scratch (admits ring.now epoch) key.now outlet }
+    ensures answer { result ≡ opened_by G.model scratch (admits ring.now epoch) key.now outlet }
     ensures fits { OnOk result (G.model.element_width ≤ outlet) }
 {
     if scratch < ENOUGH {

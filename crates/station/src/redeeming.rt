@@ -1,7 +1,7 @@
 // What a token must be before its pair is marked.
 ghost use Rattle.std.specs.Prelude.{◌≡◌, ◌≤◌, length};
 ghost use Rattle.ring.specs.Places.{places, key_in};
-ghost use Rattle.station.specs.Redeeming.{authentic as authentic-by, redeemable, same as same-list};
+ghost use Rattle.station.specs.Redeeming.{authentic as authentic_by, redeemable, same as same_list};
 
 use faults::{GroupFault, StationFault, TokenFault, WireFault};
 use group::Group;
@@ -14,7 +14,7 @@ use voprf::blinding::{evaluate, public};
 
 // Whether two byte strings are the same.
 fn same(a: &[u8], b: &[u8]) -> bool
-    ensures { result ≡ same-list a.now b.now }
+    ensures { result ≡ same_list a.now b.now }
 {
     a == b
 }
@@ -29,7 +29,7 @@ fn authentic<G: Group>(
 ) -> Result<(), StationFault>
     requires room { 1024 ≤ length bytes.old }
     requires input { length input.now ≡ 100 }
-    ensures { result ≡ authentic-by G.model key id.now told.now input.now }
+    ensures { result ≡ authentic_by G.model key id.now told.now input.now }
 {
     if !same(id, &key_id(public::<G>(key))) {
         return Err(StationFault::Token(TokenFault::OtherKey));

@@ -1,7 +1,6 @@
 -- What a token is under a key, and what the calls about one token answer.
-use Rattle.std.specs.Prelude.{◌≡◌, ℕ, ◌≤◌, Bool, not, ◌||◌, List, [], ◌∷◌, length, take, Ok, Err, Result, ◌==◌, nat_lt}
+use Rattle.std.specs.Prelude.{◌≡◌, ℕ, Bool, not, List, [], ◌∷◌, length, take, Ok, Err, Result, ◌==◌, nat_lt}
 use Rattle.std.specs.Option.{ok_or}
-use Rattle.faults.specs.declared.WireFault.{WireFault}
 use Rattle.faults.specs.declared.WireFault.TheVariants.{ShortScratch, WrongLength}
 use Rattle.faults.specs.declared.GroupFault.{GroupFault}
 use Rattle.faults.specs.declared.GroupFault.TheVariants.{NoElement, NullElement, NoScalar, NullInput}

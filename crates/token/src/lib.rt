@@ -5,7 +5,7 @@
 #![tactic(auto)]
 
 ghost use Rattle.std.specs.Prelude.{◌≡◌, ◌≤◌, length, replicate};
-ghost use Rattle.token.specs.Tokens.{is_null as null-test, element_of, key_of, input_answer, direct_answer};
+ghost use Rattle.token.specs.Tokens.{is_null as null_test, element_of, key_of, input_answer, direct_answer};
 
 use faults::{BatchFault, GroupFault, WireFault};
 use group::Group;
@@ -16,7 +16,7 @@ use voprf::blinding::evaluate;
 
 // Whether an element is the null.
 pub fn is_null<G: Group>(p: G) -> bool
-    ensures { result ≡ null-test G.model p }
+    ensures { result ≡ null_test G.model p }
 {
     p.same(G::null())
 }

@@ -1,8 +1,7 @@
 -- What the prover makes passes the check.
-use Rattle.std.proofs.Common.{◌≡◌, ℕ, zero, suc, ◌+◌, ◌-◌, ◌*◌, ◌/◌, ◌%◌, ◌<◌, ◌≤◌, Bool, true, false, cond, List, [], ◌∷◌, ◌++◌, map, length, take, drop, Some, None, Ok, Err, Option, Result, sym, refl, ap, ◌∙◌, mul_comm, arith}
+use Rattle.std.proofs.Common.{◌≡◌, ℕ, ◌+◌, ◌*◌, ◌≤◌, true, List, [], ◌∷◌, ◌++◌, map, length, take, drop, Ok, Result, sym, refl, ap, ◌∙◌, mul_comm, arith}
 use Rattle.std.proofs.lemmas.List.{take_at, drop_at, length-map}
 use Rattle.faults.specs.declared.BatchFault.{BatchFault}
-use Rattle.faults.specs.declared.BatchFault.TheVariants.{BadProof}
 use Rattle.scalar.specs.Scalars.{subtracted, multiplied}
 use Rattle.group.specs.Model.{Model}
 use Rattle.group.specs.Elements.{null, generator, sum, base_multiple, multiple}
@@ -10,7 +9,7 @@ use Rattle.group.specs.Theorems.{row}
 use Rattle.group.proofs.Laws.{lawful, responds, multiple_null}
 use Rattle.group.proofs.Weighing.{row_length, length_quotient}
 use Rattle.voprf.specs.Blinding.{public_key, answered}
-use Rattle.voprf.specs.Proving.{then, read_item, seed, weight, step, steps, count, composites, challenge, proof_of, proved, rechallenge, checked, ProofsPass}
+use Rattle.voprf.specs.Proving.{then, read_item, seed, weight, step, steps, count, composites, challenge, proof_of, proved, rechallenge, ProofsPass}
 use Rattle.voprf.proofs.Sums.{composites_whole, same_scalars, judged}
 
 module _ {E S K : Type 0} (m : Model E S K) where

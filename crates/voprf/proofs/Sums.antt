@@ -1,14 +1,13 @@
 -- The loop over the items of a batch, one item on.
-use Rattle.std.proofs.Common.{◌≡◌, ℕ, zero, suc, ◌+◌, ◌-◌, ◌*◌, ◌<◌, ◌≤◌, Bool, true, false, cond, ◌&&◌, eqb, leb, List, length, take, drop, Ok, Err, Result, sym, refl, ap, ◌∙◌, add-mul, one-mul, arith, eq-eqb}
+use Rattle.std.proofs.Common.{◌≡◌, ℕ, suc, ◌+◌, ◌-◌, ◌*◌, ◌<◌, ◌≤◌, Bool, true, false, cond, List, length, take, drop, Ok, Err, Result, sym, ap, ◌∙◌, add-mul, one-mul, arith, eq-eqb}
 use Rattle.std.proofs.lemmas.List.{drop-drop}
 use Rattle.faults.specs.declared.BatchFault.{BatchFault}
 use Rattle.group.specs.Model.{Model}
-use Rattle.faults.specs.declared.BatchFault.TheVariants.{Wire as BatchWire, BadProof}
-use Rattle.faults.specs.declared.WireFault.TheVariants.{WrongLength}
+use Rattle.faults.specs.declared.BatchFault.TheVariants.{BadProof}
 use Rattle.std.proofs.lemmas.Bool.Decides.{nat_tests}
 use Rattle.std.proofs.lemmas.Bool.{ne_eqb}
 use Rattle.group.specs.Elements.{null}
-use Rattle.voprf.specs.Proving.{then, step, steps, seed, count, paired, composites, same_number, rechallenge, checked}
+use Rattle.voprf.specs.Proving.{then, step, steps, seed, count, composites, same_number, rechallenge, checked}
 
 -- the place of the next item
 pub next_place : (at i w width : ℕ) → at ≡ i * w → width ≡ w → at + width ≡ (i + 1) * w

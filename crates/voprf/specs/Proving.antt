@@ -1,5 +1,5 @@
 -- The batch proof: that one key answered every item of a batch.
-use Rattle.std.specs.Prelude.{◌≡◌, ℕ, zero, suc, ◌+◌, ◌*◌, ◌/◌, ◌≤◌, Bool, true, false, cond, ◌&&◌, List, [], ◌∷◌, ◌++◌, map, length, take, drop, Some, None, Ok, Err, codes, Option, Result, ◌==◌, nat_le}
+use Rattle.std.specs.Prelude.{◌≡◌, ℕ, zero, suc, ◌+◌, ◌*◌, ◌/◌, ◌≤◌, Bool, cond, ◌&&◌, List, ◌++◌, map, length, take, drop, Some, None, Ok, Err, codes, Option, Result, ◌==◌, nat_le}
 use Rattle.faults.specs.declared.WireFault.TheVariants.{WrongLength}
 use Rattle.faults.specs.declared.GroupFault.TheVariants.{NoElement}
 use Rattle.faults.specs.declared.BatchFault.{BatchFault}

@@ -1,7 +1,7 @@
 // The batch proof: that one key answered every item, by one challenge and one response.
 ghost use Rattle.std.specs.Prelude.{◌≡◌, ℕ, ◌+◌, ◌*◌, ◌<◌, ◌≤◌, length};
 ghost use Rattle.group.specs.Elements.{null};
-ghost use Rattle.voprf.specs.Proving.{seed as seed-of, weight as weight-of, read_item, step, steps, composites as composed, challenge as challenged, rechallenge, proved, checked, ProofsPass};
+ghost use Rattle.voprf.specs.Proving.{seed as seed_of, weight as weight_of, read_item, step, steps, composites as composed, challenge as challenged, rechallenge, proved, checked, ProofsPass};
 
 use faults::{BatchFault, WireFault};
 use group::{Group, multiple};
@@ -13,7 +13,7 @@ pub const MOST: usize = 16;
 // What all weights of a batch begin with.
 fn seed<G: Group>(bytes: &mut [u8], pk: G) -> [u8; 32]
     requires { 1024 ≤ length bytes.old }
-    ensures { result ≡ seed-of G.model pk }
+    ensures { result ≡ seed_of G.model pk }
 {
     let at = put_element(bytes, 0, pk);
     // "Seed-" has 5 bytes, and the context string 15 beside the group's name
@@ -34,7 +34,7 @@ fn weight<G: Group>(
     requires room { 1024 ≤ length bytes.old }
     requires sent { length sent.now ≤ 8 }
     requires got { length got.now ≤ 8 }
-    ensures { result ≡ weight-of G.model seed.now place sent.now got.now }
+    ensures { result ≡ weight_of G.model seed.now place sent.now got.now }
 {
     let at = put(bytes, 0, &[0, 32]);
     let at = put(bytes, at, seed);

@@ -1,6 +1,6 @@
-use Rattle.std.proofs.Common.{◌≡◌, ℕ, ◌+◌, ◌<◌, ◌≤◌, length, get_or, replicate, sym, refl, ap, ◌∙◌, arith}
+use Rattle.std.proofs.Common.{◌≡◌, ◌+◌, ◌<◌, length, get_or, replicate, sym, refl, ap, ◌∙◌, arith}
 use Rattle.std.proofs.lemmas.List.{length-replicate, get_or-replicate}
-use Rattle.chains.specs.Tables.{Entry, Table, blank, cleared, with_head, put, entry}
+use Rattle.chains.specs.Tables.{Entry, Table, blank, entry}
 use Rattle.chains.proofs.Links.{length_put}
 use Rattle.chains.proofs.Steps.{none_chained, one_chained, all_chained}
 use Rattle.chains.proofs.clear.Goals as goal

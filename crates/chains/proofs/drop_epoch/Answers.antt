@@ -1,5 +1,5 @@
-use Rattle.std.proofs.Common.{◌≡◌, ℕ, ◌+◌, ◌-◌, ◌<◌, ◌≤◌, sym, refl, ap, ◌∙◌, arith}
-use Rattle.chains.specs.Tables.{Table, swept, swept_from}
+use Rattle.std.proofs.Common.{◌≡◌, ◌+◌, ◌-◌, sym, ap, ◌∙◌, arith}
+use Rattle.chains.specs.Tables.{swept_from}
 use Rattle.chains.proofs.Steps.{swept_next, swept_none}
 use Rattle.chains.proofs.drop_epoch.Goals as goal
 

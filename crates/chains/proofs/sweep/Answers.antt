@@ -1,5 +1,5 @@
-use Rattle.std.proofs.Common.{◌≡◌, ℕ, ◌-◌, ◌<◌, sym, refl, ap, ◌∙◌, subst, inl, inr, arith}
-use Rattle.chains.specs.Tables.{Table, at, head, swept, bridged, freed}
+use Rattle.std.proofs.Common.{◌≡◌, ◌-◌, sym, ap, ◌∙◌, inl, inr, arith}
+use Rattle.chains.specs.Tables.{at, swept, bridged, freed}
 use Rattle.chains.proofs.Steps.{swept_end, swept_hit, swept_miss}
 use Rattle.chains.proofs.sweep.Goals as goal
 use Rattle.chains.proofs.sweep.Goals.{then-epoch, else-epoch}

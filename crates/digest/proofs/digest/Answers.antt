@@ -1,8 +1,7 @@
-use Rattle.std.proofs.Common.{◌≡◌, ℕ, ◌+◌, ◌-◌, ◌*◌, ◌/◌, ◌%◌, List, length, take, drop, sym, refl, ap, ◌∙◌, arith, rules}
+use Rattle.std.proofs.Common.{◌≡◌, ℕ, ◌-◌, ◌*◌, ◌/◌, ◌%◌, length, take, drop, refl, ap, ◌∙◌, arith, rules}
 use Rattle.std.proofs.lemmas.List.{take_rest}
 use Rattle.digest.specs.Constants.{initial}
-use Rattle.digest.specs.Padding.{padded}
-use Rattle.digest.specs.Sha256.{chained, closed, sha256, digested}
+use Rattle.digest.specs.Sha256.{sha256}
 use Rattle.digest.proofs.Blocks.{closed_whole}
 use Rattle.digest.proofs.digest.Goals as goal
 

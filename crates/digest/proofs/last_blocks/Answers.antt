@@ -1,4 +1,4 @@
-use Rattle.std.proofs.Common.{◌≡◌, ℕ, ◌+◌, ◌-◌, ◌*◌, ◌%◌, List, ◌∷◌, ◌++◌, length, take, drop, sym, refl, ap, ◌∙◌, arith}
+use Rattle.std.proofs.Common.{◌≡◌, ℕ, ◌-◌, List, ◌++◌, length, sym, ap, ◌∙◌, arith}
 use Rattle.digest.specs.Padding.{padding, zeros_after}
 use Rattle.digest.specs.Sha256.{compressed}
 use Rattle.digest.proofs.Blocks.{one_block, two_blocks}

@@ -1,6 +1,6 @@
-use Rattle.std.proofs.Common.{◌≡◌, ℕ, ◌+◌, ◌-◌, ◌*◌, ◌/◌, length, take, drop, sym, refl, ap, ◌∙◌, arith}
+use Rattle.std.proofs.Common.{◌≡◌, ℕ, ◌+◌, ◌-◌, ◌*◌, ◌/◌, length, refl, ap, ◌∙◌, arith}
 use Rattle.digest.specs.Constants.{initial}
-use Rattle.digest.specs.Sha256.{chained, compressed}
+use Rattle.digest.specs.Sha256.{chained}
 use Rattle.digest.proofs.Steps.{chained_more}
 use Rattle.digest.proofs.whole_blocks.Goals as goal
 

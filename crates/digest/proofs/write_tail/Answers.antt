@@ -1,4 +1,4 @@
-use Rattle.std.proofs.Common.{◌≡◌, ℕ, ◌-◌, ◌*◌, List, ◌∷◌, ◌++◌, length, replicate, refl, ap, ◌∙◌, arith}
+use Rattle.std.proofs.Common.{◌≡◌, ℕ, ◌-◌, ◌*◌, List, ◌∷◌, ◌++◌, length, replicate, ap, ◌∙◌, arith}
 use Rattle.digest.specs.Padding.{eight_bytes}
 use Rattle.digest.proofs.Tail.{tail_is}
 use Rattle.digest.proofs.write_tail.Goals as goal

@@ -1,5 +1,4 @@
 use Rattle.std.proofs.Common.{ℕ, ◌+◌, ◌*◌, ◌≤◌, length, drop, sym, ap, ◌∙◌, suc-mul, zero-mul, add-one, arith}
-use Rattle.group.specs.Elements.{multiple}
 use Rattle.group.proofs.Weighing.{whole_length, length_quotient, item_within, turned, bad_item, onward, ended, onward_start, wrong_length}
 use Rattle.group.proofs.weighted_sum.Given.{Over}
 use Rattle.group.proofs.weighted_sum.Goals as goal

@@ -1,4 +1,4 @@
-use Rattle.std.proofs.Common.{◌≡◌, ℕ, ◌-◌, take, ap, ◌∙◌, arith, rules}
+use Rattle.std.proofs.Common.{◌≡◌, ℕ, ◌-◌, take, ap, ◌∙◌, arith}
 use Rattle.digest.specs.Sha256.{sha256}
 use Rattle.hashing.specs.Hashing.{authenticator}
 use Rattle.hashing.proofs.Appending.{and_then, same_part, whole}

@@ -1,5 +1,5 @@
 -- Each call keeps what the station holds to what the history says.
-use Rattle.std.proofs.Common.{◌≡◌, ◌∷◌, sym, refl, ap, ◌∙◌, subst}
+use Rattle.std.proofs.Common.{◌∷◌, sym, ap, subst}
 use Rattle.ring.specs.Places.{places}
 use Rattle.history.specs.Events.{event, told, number}
 use Rattle.history.specs.Kept.{Kept}

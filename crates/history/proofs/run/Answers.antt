@@ -1,4 +1,4 @@
-use Rattle.std.proofs.Common.{◌≡◌, ℕ, ◌+◌, ◌<◌, ◌≤◌, min, [], ◌∷◌, reverse, length, take, drop, set, None, sym, refl, ap, ◌∙◌, subst, arith, rules}
+use Rattle.std.proofs.Common.{◌≡◌, ℕ, ◌≤◌, min, [], ◌∷◌, reverse, length, take, drop, None, sym, refl, ap, subst, arith, rules}
 use native.Mathlib.Nat.{min-le_left, min-le_right}
 use Rattle.ring.specs.Places.{places}
 use Rattle.history.specs.declared.calls.Call.TheVariants.{Count}

@@ -1,4 +1,4 @@
-use Rattle.std.proofs.Common.{◌≡◌, sym, ◌∙◌, arith}
+use Rattle.std.proofs.Common.{sym, ◌∙◌, arith}
 use Rattle.std.proofs.lemmas.Result.{err_from_is_err_and}
 use Rattle.messages.proofs.Reading.{counted, uncounted, front_short, front_other, front_uncounted, front_whole}
 use Rattle.messages.proofs.batch_front.Goals as goal

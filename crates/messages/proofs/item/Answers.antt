@@ -1,4 +1,4 @@
-use Rattle.std.proofs.Common.{◌≡◌, length, arith}
+use Rattle.std.proofs.Common.{length, arith}
 use Rattle.messages.proofs.Placing.{item_ends, no_item, one_item}
 use Rattle.messages.proofs.item.Goals as goal
 

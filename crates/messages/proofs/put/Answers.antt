@@ -1,4 +1,4 @@
-use Rattle.std.proofs.Common.{◌≡◌, ℕ, ◌+◌, ◌-◌, ◌++◌, length, take, drop, sym, refl, ap, ◌∙◌, drop-drop}
+use Rattle.std.proofs.Common.{ℕ, ◌+◌, ◌-◌, ◌++◌, length, take, drop, refl, ap, ◌∙◌, drop-drop}
 use native.Mathlib.Nat.{add-sub_cancel_left}
 use Rattle.messages.proofs.put.Goals as goal
 

@@ -1,5 +1,5 @@
-use Rattle.std.proofs.Common.{◌≡◌, take, drop, Ok, sym, refl, ap, ◌∙◌}
-use Rattle.messages.specs.Messages.{kind_in, epoch_in, token_in, Parts}
+use Rattle.std.proofs.Common.{take, drop, Ok, sym, refl, ap, ◌∙◌}
+use Rattle.messages.specs.Messages.{kind_in, epoch_in}
 use Rattle.messages.proofs.Reading.{token_wrong, token_whole}
 use Rattle.messages.proofs.read_token.Goals as goal
 

@@ -1,4 +1,4 @@
-use Rattle.std.proofs.Common.{◌≡◌, ℕ, ◌+◌, ◌*◌, List, take, drop, Ok, sym, ap, ◌∙◌}
+use Rattle.std.proofs.Common.{ℕ, ◌+◌, ◌*◌, sym, ap, ◌∙◌}
 use Rattle.messages.proofs.Reading.{split_wrong, split_whole}
 use Rattle.messages.proofs.split_reply.Goals as goal
 

@@ -1,6 +1,6 @@
-use Rattle.std.proofs.Common.{◌≡◌, length, drop, Ok, sym, ap, ◌∙◌, arith, ltb-false, ltb-true}
+use Rattle.std.proofs.Common.{drop, Ok, sym, ap, ◌∙◌, arith, ltb-false, ltb-true}
 use Rattle.std.proofs.lemmas.List.{take_rest}
-use Rattle.messages.specs.Messages.{kind_in, epoch_in, count_in, header_in}
+use Rattle.messages.specs.Messages.{kind_in, count_in}
 use Rattle.messages.proofs.Reading.{header_short, header_whole}
 use Rattle.messages.proofs.take_header.Goals as goal
 

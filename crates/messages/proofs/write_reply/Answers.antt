@@ -1,5 +1,5 @@
-use Rattle.std.proofs.Common.{◌≡◌, ℕ, ◌+◌, ◌*◌, ◌≤◌, false, length, Ok, sym, refl, ap, ◌∙◌, arith}
-use Rattle.messages.specs.Messages.{head_bytes, no_count, place, reply_length}
+use Rattle.std.proofs.Common.{ℕ, ◌*◌, length, Ok, sym, refl, ap, ◌∙◌, arith}
+use Rattle.messages.specs.Messages.{head_bytes, place, reply_length}
 use Rattle.messages.specs.Views.{answers}
 use Rattle.messages.proofs.Reading.{counted, uncounted}
 use Rattle.messages.proofs.Writing.{head_length, reply_uncounted, reply_mislong, challenge_mislong, response_mislong, reply_narrow, reply_fits, reply_bytes_length, reply_laid}

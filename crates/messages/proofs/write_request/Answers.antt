@@ -1,5 +1,5 @@
-use Rattle.std.proofs.Common.{◌≡◌, ℕ, ◌+◌, ◌*◌, ◌≤◌, false, length, Ok, sym, refl, ap, ◌∙◌, arith}
-use Rattle.messages.specs.Messages.{head_bytes, no_count, place, request_length}
+use Rattle.std.proofs.Common.{ℕ, ◌*◌, length, Ok, sym, refl, ap, ◌∙◌, arith}
+use Rattle.messages.specs.Messages.{head_bytes, place, request_length}
 use Rattle.messages.specs.Views.{batch}
 use Rattle.messages.proofs.Reading.{counted, uncounted}
 use Rattle.messages.proofs.Writing.{head_length, request_uncounted, request_mislong, request_narrow, request_fits, request_bytes_length, request_laid}

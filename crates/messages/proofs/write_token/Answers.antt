@@ -1,4 +1,4 @@
-use Rattle.std.proofs.Common.{◌≡◌, length, Ok, sym, refl, ap, ◌∙◌, arith}
+use Rattle.std.proofs.Common.{length, Ok, sym, refl, ap, ◌∙◌, arith}
 use Rattle.messages.proofs.Writing.{token_narrow, token_fits, token_laid}
 use Rattle.messages.proofs.write_token.Goals as goal
 

@@ -1,5 +1,3 @@
-use Rattle.std.proofs.Common.{◌≡◌, ℕ, Bool, true, false, sym, ap, ◌∙◌, ⊎_elim}
-use Rattle.std.proofs.lemmas.Bool.{cases_Bool}
 use Rattle.token.proofs.Nulls.{null_tested}
 use Rattle.token.proofs.is_null.Goals as goal
 

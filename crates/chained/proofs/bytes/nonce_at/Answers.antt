@@ -1,4 +1,4 @@
-use Rattle.std.proofs.Common.{◌≡◌, ℕ, suc, ◌+◌, ◌-◌, ◌*◌, ◌%◌, ◌^◌, true, false, cond, eqb, List, [], ◌∷◌, map, length, take, drop, Decides, sym, refl, ap, ◌∙◌, subst, ⊎_elim, arith, w8}
+use Rattle.std.proofs.Common.{◌≡◌, ℕ, ◌+◌, ◌-◌, ◌*◌, ◌%◌, ◌^◌, true, false, cond, eqb, List, [], ◌∷◌, map, length, take, drop, Decides, sym, refl, ap, ◌∙◌, ⊎_elim, arith, w8}
 use native.Mathlib.Nat.{pow-succ'}
 use mir.Val.{bits, hbits}
 use lib.Lanes.{mask_l, top, zip2}

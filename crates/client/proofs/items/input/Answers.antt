@@ -1,4 +1,4 @@
-use Rattle.std.proofs.Common.{◌≡◌, sym, ap, ◌∙◌, rules}
+use Rattle.std.proofs.Common.{rules}
 use Rattle.messages.specs.Messages.{token_input_of}
 use Rattle.token.specs.Tokens.{token_input}
 use Rattle.client.specs.Batches.{input_of}

@@ -1,11 +1,11 @@
-use Rattle.std.proofs.Common.{◌≡◌, ℕ, ◌+◌, ◌-◌, ◌*◌, ◌/◌, ◌≤◌, List, length, take, Ok, Err, sym, refl, ap, ◌∙◌, mul-le-mul_right, arith, rules}
+use Rattle.std.proofs.Common.{◌≡◌, ℕ, ◌-◌, ◌*◌, ◌/◌, length, take, Ok, Err, sym, ap, ◌∙◌, arith, rules}
 use Rattle.std.proofs.lemmas.Nat.{mul-le}
 use Rattle.std.proofs.lemmas.List.{length-take-le}
 use Rattle.std.proofs.lemmas.Result.{err_from_is_err_and}
 use Rattle.messages.specs.Answers.{over}
-use Rattle.messages.specs.Messages.{Batch, request_bytes}
+use Rattle.messages.specs.Messages.{request_bytes}
 use Rattle.client_next.specs.Batches.{outlet_after}
-use Rattle.client_next.specs.Blinding.{blind_answer, begun, batch_seen}
+use Rattle.client_next.specs.Blinding.{begun, batch_seen}
 use Rattle.client_next.proofs.Requests.{never, writes, vet_stops, item_stops, goes, walked_under}
 use Rattle.client_next.proofs.blinding.blind.Goals as goal
 

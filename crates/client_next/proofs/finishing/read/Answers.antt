@@ -1,4 +1,4 @@
-use Rattle.std.proofs.Common.{◌≡◌, sym, ap, ◌∙◌}
+use Rattle.std.proofs.Common.{sym, ◌∙◌}
 use Rattle.std.proofs.lemmas.Result.{err_from_is_err_and}
 use Rattle.client_next.proofs.Replies.{reply_short, reply_mislong, other_kind, other_epoch, other_count, reply_fits}
 use Rattle.client_next.proofs.finishing.read.Goals as goal

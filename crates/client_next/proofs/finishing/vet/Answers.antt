@@ -1,4 +1,4 @@
-use Rattle.std.proofs.Common.{◌≡◌, sym, rules}
+use Rattle.std.proofs.Common.{sym, rules}
 use Rattle.client_next.specs.Finishing.{finish_vetted}
 use Rattle.messages.specs.Views.{answers}
 use Rattle.client_next.proofs.Replies.{reply_known}

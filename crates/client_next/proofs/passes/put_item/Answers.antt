@@ -1,4 +1,4 @@
-use Rattle.std.proofs.Common.{◌≡◌, length, ◌∙◌, arith, rules}
+use Rattle.std.proofs.Common.{◌≡◌, length, ◌∙◌, arith}
 use Rattle.std.proofs.lemmas.Result.{err_from_is_err_and}
 use Rattle.client_next.proofs.Making.{check_refused, write_refused, check_laid, write_laid}
 use Rattle.client_next.proofs.passes.put_item.Goals as goal

@@ -1,4 +1,4 @@
-use Rattle.std.proofs.Common.{◌≡◌, ◌-◌, ◌*◌, [], length, take, drop}
+use Rattle.std.proofs.Common.{◌≡◌, ◌-◌, ◌*◌, [], take, drop}
 use Rattle.client_next.specs.Batches.{walked}
 use Rattle.client_next.specs.Finishing.{made_by, width_of}
 use Rattle.client_next.proofs.passes.walk.Given as goal

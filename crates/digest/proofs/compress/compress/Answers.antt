@@ -1,4 +1,4 @@
-use Rattle.std.proofs.Common.{◌≡◌, sym, refl, ap, ◌∙◌, rules}
+use Rattle.std.proofs.Common.{◌≡◌, ap}
 use Rattle.digest.specs.Sha256.{compressed, rounds, working, schedule, added}
 use Rattle.digest.proofs.compress.compress.Goals as goal
 

@@ -1,6 +1,5 @@
-use Rattle.std.proofs.Common.{◌≡◌, ◌++◌, length, sym, ap, ◌∙◌, subst, rules}
+use Rattle.std.proofs.Common.{◌≡◌, length, ap, ◌∙◌, rules}
 use Rattle.ring.specs.Places.{places, key_in}
-use Rattle.station.specs.Issuing.{issue_answer}
 use Rattle.history.specs.Law.{bytes_told}
 use Rattle.history.proofs.Lengths.{issue_bounded, lent, laid_told, fault_told}
 use Rattle.history.proofs.making.issue.Goals as goal

@@ -1,6 +1,6 @@
-use Rattle.std.proofs.Common.{◌≡◌, ◌++◌, length, sym, ap, ◌∙◌, subst, rules}
+use Rattle.std.proofs.Common.{◌≡◌, length, ap, ◌∙◌, rules}
 use Rattle.ring.specs.Places.{places, admits}
-use Rattle.station.specs.Answers.{opening, published, places_after, latest_after}
+use Rattle.station.specs.Answers.{published, places_after, latest_after}
 use Rattle.history.specs.Law.{bytes_told}
 use Rattle.history.proofs.Lengths.{opening_bounded, lent, laid_told, fault_told}
 use Rattle.history.proofs.making.open.Goals as goal

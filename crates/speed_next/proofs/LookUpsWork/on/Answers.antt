@@ -1,4 +1,4 @@
-use Rattle.std.proofs.Common.{◌≡◌, ℕ, ◌+◌, ◌*◌, ◌/◌, ◌≤◌, length, subst, arith}
+use Rattle.std.proofs.Common.{◌≡◌, ◌*◌, ◌/◌, ◌≤◌, length, subst, arith}
 use Rattle.speed_next.proofs.Rounds.{round_more}
 use Rattle.speed_next.proofs.LookUpsWork.on.Goals as goal
 

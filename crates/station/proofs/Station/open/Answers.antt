@@ -1,4 +1,4 @@
-use Rattle.std.proofs.Common.{◌≡◌, ℕ, ◌-◌, List, ◌++◌, length, drop, Ok, Err, sym, refl, ap, ◌∙◌, arith, rules}
+use Rattle.std.proofs.Common.{◌≡◌, ℕ, ◌-◌, List, ◌++◌, length, drop, Ok, sym, ap, ◌∙◌, arith, rules}
 use Rattle.voprf.specs.Blinding.{public_key}
 use Rattle.messages.specs.Answers.{over}
 use Rattle.ring.specs.Places.{places, admits}

@@ -1,4 +1,3 @@
-use Rattle.std.proofs.Common.{rules}
 use Rattle.voprf.specs.Blinding.{blinded}
 use Rattle.voprf.proofs.blinding.blind.Goals as goal
 

@@ -1,4 +1,3 @@
-use Rattle.std.proofs.Common.{rules}
 use Rattle.voprf.specs.Blinding.{answered}
 use Rattle.voprf.proofs.blinding.evaluate.Goals as goal
 

@@ -1,4 +1,3 @@
-use Rattle.std.proofs.Common.{rules}
 use Rattle.voprf.specs.Blinding.{public_key}
 use Rattle.voprf.proofs.blinding.public.Goals as goal
 

@@ -1,4 +1,3 @@
-use Rattle.std.proofs.Common.{rules}
 use Rattle.voprf.specs.Blinding.{unblinded}
 use Rattle.voprf.proofs.blinding.unblind.Goals as goal
 

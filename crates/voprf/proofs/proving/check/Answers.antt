@@ -1,7 +1,5 @@
-use Rattle.std.proofs.Common.{◌≡◌, ℕ, Bool, true, false, cond, Ok, Err, Result, sym, ap, ◌∙◌, arith, rules}
-use Rattle.faults.specs.declared.BatchFault.{BatchFault}
-use Rattle.faults.specs.declared.BatchFault.TheVariants.{BadProof}
-use Rattle.voprf.specs.Proving.{then, same_number, composites, rechallenge, checked}
+use Rattle.std.proofs.Common.{◌≡◌, ℕ, true, false, arith, rules}
+use Rattle.voprf.specs.Proving.{checked}
 use Rattle.voprf.proofs.Sums.{same_scalars, other_scalars, judged}
 use Rattle.voprf.proofs.proving.check.Goals as goal
 

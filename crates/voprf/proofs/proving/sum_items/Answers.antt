@@ -1,8 +1,6 @@
-use Rattle.std.proofs.Common.{◌≡◌, ℕ, ◌+◌, ◌-◌, ◌*◌, length, drop, Ok, Err, sym, refl, ap, ◌∙◌, arith, rules}
+use Rattle.std.proofs.Common.{◌≡◌, ◌+◌, ◌-◌, length, drop, Ok, Err, sym, ap, ◌∙◌, arith, rules}
 use Rattle.std.proofs.lemmas.Result.{err_from_is_err_and}
-use Rattle.group.specs.Elements.{null}
 use Rattle.group.proofs.Weighing.{item_within}
-use Rattle.voprf.specs.Proving.{steps}
 use Rattle.voprf.proofs.Sums.{next_place, onward, steps_done}
 use Rattle.voprf.proofs.proving.sum_items.Goals as goal
 

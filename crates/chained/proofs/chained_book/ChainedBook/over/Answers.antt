@@ -1,8 +1,8 @@
-use Rattle.std.proofs.Common.{◌≡◌, ℕ, ◌≤◌, List, length, sym, refl, ap, ◌∙◌, subst, arith}
-use Rattle.chains.specs.Tables.{Table, cleared}
+use Rattle.std.proofs.Common.{ℕ, List, length, refl, ap, ◌∙◌}
+use Rattle.chains.specs.Tables.{cleared}
 use Rattle.chains.specs.Chains.{pairs, Sound}
 use Rattle.chains.proofs.Meanings.{cleared_chains}
-use Rattle.chained.specs.Layout.{RoomIn, table_of, image, later}
+use Rattle.chained.specs.Layout.{table_of, image, later}
 use Rattle.chained.specs.Facts.{some_places, places_is}
 use Rattle.chained.proofs.Books.{after_room, after_table, after_sound, after_image, cleared_long, room_of}
 use Rattle.chained.proofs.chained_book.ChainedBook.over.Goals as goal

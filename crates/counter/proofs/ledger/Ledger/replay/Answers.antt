@@ -1,4 +1,4 @@
-use Rattle.std.proofs.Common.{◌≡◌, map, Ok, vec_items, sym, ap, ◌∙◌}
+use Rattle.std.proofs.Common.{map, Ok, vec_items, ap, ◌∙◌}
 use Rattle.counter.specs.Ledgers.{lent_of, seen}
 use Rattle.counter.proofs.Telling.{line_served, line_unserved}
 use Rattle.counter.proofs.ledger.Ledger.replay.Goals as goal

@@ -1,4 +1,4 @@
-use Rattle.std.proofs.Common.{◌≡◌, Some, vec_items, sym, ap, ◌∙◌}
+use Rattle.std.proofs.Common.{Some, sym, ap, ◌∙◌}
 use Rattle.script.specs.Kept.{holds}
 use Rattle.script.proofs.Table.{found_at, found_none}
 use Rattle.script.proofs.names.Names.find.Goals as goal

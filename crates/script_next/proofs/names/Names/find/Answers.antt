@@ -1,4 +1,4 @@
-use Rattle.std.proofs.Common.{◌≡◌, Some, vec_items, sym, ap, ◌∙◌}
+use Rattle.std.proofs.Common.{Some, sym, ap, ◌∙◌}
 use Rattle.script_next.specs.Kept.{holds}
 use Rattle.script_next.proofs.Table.{found_at, found_none}
 use Rattle.script_next.proofs.names.Names.find.Goals as goal

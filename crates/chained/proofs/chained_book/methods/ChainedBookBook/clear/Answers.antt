@@ -1,6 +1,6 @@
-use Rattle.std.proofs.Common.{◌≡◌, ℕ, ◌≤◌, List, length, sym, refl, ap, ◌∙◌, subst}
+use Rattle.std.proofs.Common.{ℕ, List, length, sym, ap, ◌∙◌}
 use Rattle.book.proofs.Facts.{becomes_empty}
-use Rattle.chains.specs.Tables.{Table, cleared}
+use Rattle.chains.specs.Tables.{cleared}
 use Rattle.chains.specs.Chains.{pairs, Sound}
 use Rattle.chains.proofs.Meanings.{cleared_chains}
 use Rattle.chained.specs.Layout.{table_of, image, later}

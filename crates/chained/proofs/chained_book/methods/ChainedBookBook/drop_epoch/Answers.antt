@@ -1,4 +1,4 @@
-use Rattle.std.proofs.Common.{◌≡◌, ℕ, ◌+◌, ◌-◌, ◌≤◌, List, length, sym, refl, ap, ◌∙◌, subst, arith}
+use Rattle.std.proofs.Common.{◌≡◌, ℕ, ◌-◌, List, length, sym, ap, ◌∙◌, subst}
 use Rattle.book.specs.Meaning.{others}
 use Rattle.book.proofs.Facts.{becomes_others}
 use Rattle.chains.specs.Tables.{Table, dropped}

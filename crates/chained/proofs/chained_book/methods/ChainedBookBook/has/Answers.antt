@@ -1,5 +1,4 @@
 use Rattle.std.proofs.lemmas.Bool.Decides.{Decides-like}
-use Rattle.chains.specs.Meant.{length_pairs}
 use Rattle.chains.proofs.Meanings.{found}
 use Rattle.chained.specs.Layout.{table_of}
 use Rattle.chained.specs.Books.{sound_in}

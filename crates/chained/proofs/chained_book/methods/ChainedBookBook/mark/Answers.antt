@@ -1,4 +1,4 @@
-use Rattle.std.proofs.Common.{◌≡◌, ℕ, List, length, sym, refl, ap, ◌∙◌, subst}
+use Rattle.std.proofs.Common.{ℕ, List, length, sym, refl, ap, ◌∙◌, subst}
 use Rattle.book.specs.Meaning.{Pair}
 use Rattle.chains.specs.Chains.{pairs, Sound}
 use Rattle.chained.specs.Layout.{Bytes, RoomIn, table_of}
