@@ -13,7 +13,7 @@ use chained::ChainedBook;
 use desk::{Desk, Empty};
 use faults::{Fault, Refusal, WireFault};
 use script::answers::{Answer, Report};
-use script::commands::Command;
+use script::command::Command;
 use script::errors::LineFault;
 use script::session::Session;
 use script::tasks::{Shelf, Task};

@@ -17,7 +17,7 @@ use counter::Counter;
 use desk_next::{Desk, Empty};
 use faults::{Fault, Refusal, WireFault};
 use script_next::answers::{Answer, Report};
-use script_next::commands::Command;
+use script_next::command::Command;
 use script_next::errors::LineFault;
 use script_next::reading::Shelf;
 use script_next::session::Session;

@@ -1,6 +1,6 @@
 -- What a spent book means, and what each of its calls does to that meaning.
 use Rattle.std.specs.Prelude.{◌≡◌, ℕ, ◌+◌, ◌^◌, ◌<◌, ◌≤◌, not, ◌⊎◌, List, length, Ok, Err, filter, Result, ◌==◌, ◌≢◌, slice_index_or}
-use Rattle.std.specs.List.{ContainsAt as Has, AllByRecursion as All}
+use Rattle.std.specs.List.{ContainsAt as Has, AllByRecursion}
 use Rattle.faults.specs.declared.BookFault.{BookFault}
 use Rattle.faults.specs.declared.BookFault.TheVariants.{Spent, Full}
 
@@ -25,7 +25,7 @@ pub record Meaning : Type 0 where
   pub within : length pairs ≤ capacity
   pub some : 1 ≤ capacity
   pub small : capacity < 2 ^ 16
-  pub shaped : All Shaped pairs
+  pub shaped : AllByRecursion Shaped pairs
 
 -- the pair is in the book
 abbrev pub In : Meaning → Pair → Type 0

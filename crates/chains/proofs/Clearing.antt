@@ -1,6 +1,6 @@
 -- A cleared table: every chain is empty, and the free chain is 1, 2, … Assumes nothing.
 use Rattle.std.proofs.Common.{◌≡◌, ℕ, zero, suc, ◌+◌, ◌<◌, ◌≤◌, cond, eqb, ltb, List, [], ◌∷◌, ◌++◌, map, length, get_or, replicate, sym, refl, ap, ◌∙◌, subst, ⊎_elim, arith}
-use Rattle.std.specs.List.{range_with_len, flat_map, AllByRecursion as All}
+use Rattle.std.specs.List.{range_with_len, flat_map, AllByRecursion}
 use Rattle.std.proofs.lemmas.Bool.{cases_lt, cases_eq, ne_eqb, lt-ltb, le-ltb, cond-true, cond-false}
 use Rattle.std.proofs.lemmas.List.{length-append, length-replicate, get_or_append_left, get_or-replicate, get_or_past}
 use Rattle.std.proofs.lemmas.List.FromFn.{length-range_with_len, length-map-range_with_len, get_or-map-range_with_len}
@@ -46,7 +46,7 @@ shaped n (suc k) =
     (λ (b : n ≤ k). ap (λ (x : Entry). length x.nonce) (get_or_past (free_records n) k blank (omega (arith, long n))) ∙ length-replicate {A = ℕ} 32 0)
     (cases_lt k n)
 
-blanks : (n a m : ℕ) → 1 ≤ a → a + m ≡ n + 1 → All (λ k. ((entry (free_records n) k).epoch ≡ 0) × ((entry (free_records n) k).nonce ≡ replicate 32 0)) (range_with_len a m)
+blanks : (n a m : ℕ) → 1 ≤ a → a + m ≡ n + 1 → AllByRecursion (λ k. ((entry (free_records n) k).epoch ≡ 0) × ((entry (free_records n) k).nonce ≡ replicate 32 0)) (range_with_len a m)
 unfolding free_record
 blanks n a zero lo end = tt
 blanks n a (suc m) lo end =
@@ -92,8 +92,8 @@ clear_fits n some =
       wide = length-append {A = ℕ} (replicate 64 0) (1 ∷ []);
       shaped = shaped n;
       linked = λ c le. links n c some le;
-      placed = λ c lt. subst (All (λ k. chain_of (at (cleared n) k).nonce ≡ c)) (sym (clear_empty n c lt)) tt;
-      unfree = λ c lt. subst (All (λ k. Not k (clear_lists n 64))) (sym (clear_empty n c lt)) tt;
+      placed = λ c lt. subst (AllByRecursion (λ k. chain_of (at (cleared n) k).nonce ≡ c)) (sym (clear_empty n c lt)) tt;
+      unfree = λ c lt. subst (AllByRecursion (λ k. Not k (clear_lists n 64))) (sym (clear_empty n c lt)) tt;
       blank = blanks n 1 n (omega arith) (omega arith);
       size = sym (ap length nothing);
       room = omega (arith, ap length nothing, length-range_with_len 1 n, long n);

@@ -1,6 +1,6 @@
 -- Drop goes through all 64 chains. Assumes nothing.
 use Rattle.std.proofs.Common.{◌≡◌, ℕ, zero, suc, ◌+◌, ◌<◌, ◌≤◌, not, List, [], ◌∷◌, ◌++◌, map, length, sym, refl, ap, ◌∙◌, subst, inl, ⊎_elim, arith}
-use Rattle.std.specs.List.{range_with_len, flat_map, AllByRecursion as All}
+use Rattle.std.specs.List.{range_with_len, flat_map, AllByRecursion}
 use Rattle.std.proofs.lemmas.Bool.{cases_eq, cases_lt}
 use Rattle.std.proofs.lemmas.List.{length-append}
 use Rattle.std.proofs.ByRecursion.{all_kept_by}
@@ -32,10 +32,10 @@ pub record Sweeps (e c n : ℕ) (t : Table) (ls : ℕ → List ℕ) (u : Table) 
   pub behind : (d : ℕ) → d < c → ms d ≡ ls d
   pub ahead : (d : ℕ) → c ≤ d → d < 64 → ms d ≡ stay t e (ls d)
   pub frees : ms 64 ≡ fronted (flat_map (λ d. go t e (ls d)) (range_with_len c n)) (ls 64)
-  pub same : (d : ℕ) → d < 64 → All (Same t u) (ms d)
+  pub same : (d : ℕ) → d < 64 → AllByRecursion (Same t u) (ms d)
   pub long : length u.entries ≡ length t.entries
 
-all_refl : (t : Table) (ks : List ℕ) → All (Same t t) ks
+all_refl : (t : Table) (ks : List ℕ) → AllByRecursion (Same t t) ks
 all_refl t [] = tt
 all_refl t (k ∷ ks) = (refl, all_refl t ks)
 
@@ -43,10 +43,10 @@ next_chain : (e c n : ℕ) (t : Table) (ls : ℕ → List ℕ) (u : Table) (ms :
     → c + suc n ≡ 64 → Swept e c t ls [] (ls c) u ms → Sweeps e (c + 1) n u ms v ns → Sweeps e c (suc n) t ls v ns
 next_chain e c n t ls u ms v ns end one more =
     let below : c < 64 = omega arith in
-    let later : (d : ℕ) → c + 1 ≤ d → d < 64 → All (Same t u) (ls d) = λ d lo hi. subst (All (Same t u)) (one.other d hi (λ q. omega arith)) (one.same d hi) in
-    let part : (d : ℕ) → d < 64 → All (Same t u) (ns d) = λ d lt. ⊎_elim
-    (λ (b : d < c + 1). subst (All (Same t u)) (sym (more.behind d b)) (one.same d lt))
-    (λ (a : c + 1 ≤ d). subst (All (Same t u)) (sym (more.ahead d a lt)) (all_kept_by (λ k. not (of u e k)) (Same t u) (ms d) (one.same d lt)))
+    let later : (d : ℕ) → c + 1 ≤ d → d < 64 → AllByRecursion (Same t u) (ls d) = λ d lo hi. subst (AllByRecursion (Same t u)) (one.other d hi (λ q. omega arith)) (one.same d hi) in
+    let part : (d : ℕ) → d < 64 → AllByRecursion (Same t u) (ns d) = λ d lt. ⊎_elim
+    (λ (b : d < c + 1). subst (AllByRecursion (Same t u)) (sym (more.behind d b)) (one.same d lt))
+    (λ (a : c + 1 ≤ d). subst (AllByRecursion (Same t u)) (sym (more.ahead d a lt)) (all_kept_by (λ k. not (of u e k)) (Same t u) (ms d) (one.same d lt)))
     (cases_lt d (c + 1)) in
     record {
       fits = more.fits;
@@ -62,7 +62,7 @@ next_chain e c n t ls u ms v ns end one more =
       long = more.long ∙ one.long;
     }
   where
-    agree : ((d : ℕ) → c + 1 ≤ d → d < 64 → All (Same t u) (ls d)) → flat_map (λ d. go u e (ms d)) (range_with_len (c + 1) n) ≡ flat_map (λ d. go t e (ls d)) (range_with_len (c + 1) n)
+    agree : ((d : ℕ) → c + 1 ≤ d → d < 64 → AllByRecursion (Same t u) (ls d)) → flat_map (λ d. go u e (ms d)) (range_with_len (c + 1) n) ≡ flat_map (λ d. go t e (ls d)) (range_with_len (c + 1) n)
     agree later = joined_agree (λ d. go u e (ms d)) (λ d. go t e (ls d)) (c + 1) n (λ d lo hi. ap (go u e) (one.other d (omega arith) (λ q. omega arith)) ∙ go_same t u e (ls d) (later d lo (omega arith)))
 
 pub sweeps : (e c n : ℕ) (t : Table) (ls : ℕ → List ℕ) → c + n ≡ 64 → Fits t ls → (ms : ℕ → List ℕ) × Sweeps e c n t ls (swept_from e c n t) ms

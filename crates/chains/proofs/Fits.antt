@@ -1,7 +1,7 @@
 -- A table with its chains as lists of numbers, and what mark and the freeing of a record make of
 -- both. Assumes nothing.
 use Rattle.std.proofs.Common.{◌≡◌, ℕ, zero, suc, ◌+◌, ◌<◌, ◌≤◌, cond, eqb, ◌⊎◌, List, [], ◌∷◌, map, length, get_or, set, replicate, sym, refl, ap, ◌∙◌, subst, inl, inr, ⊎_elim, mod-lt, arith}
-use Rattle.std.specs.List.{range_with_len, flat_map, AllByRecursion as All}
+use Rattle.std.specs.List.{range_with_len, flat_map, AllByRecursion}
 use Rattle.std.proofs.lemmas.Bool.{cases_eq, eq-eqb, ne_eqb, cond-true, cond-false}
 use Rattle.std.proofs.lemmas.List.{length-set, length-append, get_or-set_same, get_or-set_other, append_assoc, map-append, length-replicate}
 use Rattle.book.specs.Meaning.{Pair, Apart}
@@ -20,9 +20,9 @@ pub record Fits (t : Table) (ls : ℕ → List ℕ) : Type 0 where
   pub wide : length t.heads ≡ 65
   pub shaped : (k : ℕ) → length (at t k).nonce ≡ 32
   pub linked : (c : ℕ) → c ≤ 64 → Linked t.entries (head t c) (ls c)
-  pub placed : (c : ℕ) → c < 64 → All (λ k. chain_of (at t k).nonce ≡ c) (ls c)
-  pub unfree : (c : ℕ) → c < 64 → All (λ k. Not k (ls 64)) (ls c)
-  pub blank : All (λ k. ((at t k).epoch ≡ 0) × ((at t k).nonce ≡ replicate 32 0)) (ls 64)
+  pub placed : (c : ℕ) → c < 64 → AllByRecursion (λ k. chain_of (at t k).nonce ≡ c) (ls c)
+  pub unfree : (c : ℕ) → c < 64 → AllByRecursion (λ k. Not k (ls 64)) (ls c)
+  pub blank : AllByRecursion (λ k. ((at t k).epoch ≡ 0) × ((at t k).nonce ≡ replicate 32 0)) (ls 64)
   pub size : t.size ≡ length (all_of ls)
   pub room : length (all_of ls) + length (ls 64) ≡ length t.entries
   pub apart : Apart (map (pair_at t) (all_of ls))
@@ -59,11 +59,11 @@ module _ (ls : ℕ → List ℕ) (c : ℕ) (xs fs : List ℕ) (below : c < 64) w
       (cases_eq d 64)
 
 -- ---- what a write of another record leaves
-pub all_frame : (P : Entry → Type 0) (es : List Entry) (k : ℕ) (e : Entry) (ks : List ℕ) → Not k ks → All (λ j. P (entry es j)) ks → All (λ j. P (entry (put es k e) j)) ks
+pub all_frame : (P : Entry → Type 0) (es : List Entry) (k : ℕ) (e : Entry) (ks : List ℕ) → Not k ks → AllByRecursion (λ j. P (entry es j)) ks → AllByRecursion (λ j. P (entry (put es k e) j)) ks
 all_frame P es k e [] n a = tt
 all_frame P es k e (j ∷ js) n a = (subst P (sym (entry_put_other es k j e n.0)) a.0, all_frame P es k e js n.1 a.1)
 
-pub pairs_frame : (es : List Entry) (k : ℕ) (e : Entry) (ks : List ℕ) → Not k ks → All (λ j. pair_of (entry (put es k e) j) ≡ pair_of (entry es j)) ks
+pub pairs_frame : (es : List Entry) (k : ℕ) (e : Entry) (ks : List ℕ) → Not k ks → AllByRecursion (λ j. pair_of (entry (put es k e) j) ≡ pair_of (entry es j)) ks
 pairs_frame es k e [] n = tt
 pairs_frame es k e (j ∷ js) n = (ap pair_of (entry_put_other es k j e n.0), pairs_frame es k e js n.1)
 

@@ -1,6 +1,6 @@
 -- A table after a record was taken out of its chain and put at the free chain's front. Assumes nothing.
 use Rattle.std.proofs.Common.{◌≡◌, ℕ, ◌+◌, ◌<◌, ◌≤◌, ◌⊎◌, List, [], ◌∷◌, ◌++◌, map, length, replicate, sym, refl, ap, ◌∙◌, subst, inl, inr, ⊎_elim, arith}
-use Rattle.std.specs.List.{AllByRecursion as All}
+use Rattle.std.specs.List.{AllByRecursion}
 use Rattle.std.proofs.lemmas.Bool.{cases_eq, eq-eqb, ne_eqb, cond-true, cond-false}
 use Rattle.std.proofs.lemmas.List.{length-set, length-append, length-replicate, get_or-set_same, get_or-set_other, append_assoc, map-append}
 use Rattle.std.proofs.ByRecursion.{All-append, All-weaker}
@@ -26,14 +26,14 @@ Before pre b = ((pre ≡ []) × (b ≡ 0)) ⊎ ((xs : List ℕ) × (pre ≡ xs +
 -- a record of a chain is in no other
 module _ (t : Table) (ls : ℕ → List ℕ) (c : ℕ) (fits : Fits t ls) (below : c < 64) (xs : List ℕ) (x : ℕ) (ys : List ℕ) (is : ls c ≡ xs ++ x ∷ ys) where
   pub own_chain : chain_of (at t x).nonce ≡ c
-  own_chain = (all_right (λ k. chain_of (at t k).nonce ≡ c) xs (x ∷ ys) (subst (All (λ k. chain_of (at t k).nonce ≡ c)) is (fits.placed c below))).0
+  own_chain = (all_right (λ k. chain_of (at t k).nonce ≡ c) xs (x ∷ ys) (subst (AllByRecursion (λ k. chain_of (at t k).nonce ≡ c)) is (fits.placed c below))).0
 
   pub not_elsewhere : (d : ℕ) → d < 64 → (d ≡ c → ⊥) → Not x (ls d)
   not_elsewhere d lt ne = All-weaker (λ k. chain_of (at t k).nonce ≡ d) (λ j. j ≡ x → ⊥)
       (λ j p q. ne (sym p ∙ ap (λ y. chain_of (at t y).nonce) q ∙ own_chain)) (ls d) (fits.placed d lt)
 
   pub not_free : Not x (ls 64)
-  not_free = (all_right (λ k. Not k (ls 64)) xs (x ∷ ys) (subst (All (λ k. Not k (ls 64))) is (fits.unfree c below))).0
+  not_free = (all_right (λ k. Not k (ls 64)) xs (x ∷ ys) (subst (AllByRecursion (λ k. Not k (ls 64))) is (fits.unfree c below))).0
 
 -- a record is bridged
 pub record Bridge (t : Table) (ls : ℕ → List ℕ) (c : ℕ) (xs : List ℕ) (u : Table) : Type 0 where
@@ -134,7 +134,7 @@ module _ (t : Table) (ls : ℕ → List ℕ) (c : ℕ) (pre : List ℕ) (b k : �
   unfolding freed_table freed u e
   freed_same j ne = ap pair_of (entry_put_other u.entries k j e ne) ∙ br.same j
 
-  same_all : (xs : List ℕ) → Not k xs → All (λ j. pair_at freed_table j ≡ pair_at t j) xs
+  same_all : (xs : List ℕ) → Not k xs → AllByRecursion (λ j. pair_at freed_table j ≡ pair_at t j) xs
   same_all xs n = All-weaker (λ j. j ≡ k → ⊥) (λ j. pair_at freed_table j ≡ pair_at t j) freed_same xs n
 
   head_free : head freed_table 64 ≡ k
@@ -173,15 +173,15 @@ module _ (t : Table) (ls : ℕ → List ℕ) (c : ℕ) (pre : List ℕ) (b k : �
       (subst Apart (ap (map (pair_at t)) was ∙ map-append (pair_at t) (parts.0 ++ pre) (k ∷ (ks ++ parts.1))) fits.apart))
 
   -- what was placed is still
-  placed_all : (d : ℕ) (xs : List ℕ) → Not k xs → All (λ j. chain_of (at t j).nonce ≡ d) xs → All (λ j. chain_of (at freed_table j).nonce ≡ d) xs
+  placed_all : (d : ℕ) (xs : List ℕ) → Not k xs → AllByRecursion (λ j. chain_of (at t j).nonce ≡ d) xs → AllByRecursion (λ j. chain_of (at freed_table j).nonce ≡ d) xs
   placed_all d xs n a = all_pairs (λ p. chain_of p.1 ≡ d) (pair_at t) (pair_at freed_table) xs (same_all xs n) a
 
-  unfree_all : (xs : List ℕ) → Not k xs → All (λ j. Not j (ls 64)) xs → All (λ j. Not j (k ∷ ls 64)) xs
+  unfree_all : (xs : List ℕ) → Not k xs → AllByRecursion (λ j. Not j (ls 64)) xs → AllByRecursion (λ j. Not j (k ∷ ls 64)) xs
   unfree_all xs n a = all_both (λ j. j ≡ k → ⊥) (λ j. Not j (ls 64)) (λ j. Not j (k ∷ ls 64)) xs (λ j m f. (λ q. m (sym q), f)) n a
 
-  kept_c : (P : ℕ → Type 0) → All P (ls c) → All P (pre ++ ks)
+  kept_c : (P : ℕ → Type 0) → AllByRecursion P (ls c) → AllByRecursion P (pre ++ ks)
   kept_c P a =
-      let w = subst (All P) is a in
+      let w = subst (AllByRecursion P) is a in
       All-append P pre ks (all_left P pre (k ∷ ks) w) (all_right P pre (k ∷ ks) w).1
 
   links : (d : ℕ) → d ≤ 64 → Linked (put u.entries k e) (head freed_table d) (freed_lists d)
@@ -206,22 +206,22 @@ module _ (t : Table) (ls : ℕ → List ℕ) (c : ℕ) (pre : List ℕ) (b k : �
   unfolding freed_lists
   free_length = ap length (moved_free ls c (pre ++ ks) (k ∷ ls 64) below)
 
-  places : (d : ℕ) → d < 64 → All (λ j. chain_of (at freed_table j).nonce ≡ d) (freed_lists d)
+  places : (d : ℕ) → d < 64 → AllByRecursion (λ j. chain_of (at freed_table j).nonce ≡ d) (freed_lists d)
   unfolding freed_lists
-  places = moved_below ls c (pre ++ ks) (k ∷ ls 64) below (λ d xs. All (λ j. chain_of (at freed_table j).nonce ≡ d) xs)
+  places = moved_below ls c (pre ++ ks) (k ∷ ls 64) below (λ d xs. AllByRecursion (λ j. chain_of (at freed_table j).nonce ≡ d) xs)
       (placed_all c (pre ++ ks) not_left (kept_c (λ j. chain_of (at t j).nonce ≡ c) (fits.placed c below)))
       (λ d lt ne. placed_all d (ls d) (not_elsewhere t ls c fits below pre k ks is d lt ne) (fits.placed d lt))
 
-  unfrees : (d : ℕ) → d < 64 → All (λ j. Not j (freed_lists 64)) (freed_lists d)
+  unfrees : (d : ℕ) → d < 64 → AllByRecursion (λ j. Not j (freed_lists 64)) (freed_lists d)
   unfolding freed_lists
-  unfrees d lt = subst (λ g. All (λ j. Not j g) (freed_lists d)) (sym (moved_free ls c (pre ++ ks) (k ∷ ls 64) below))
-      (moved_below ls c (pre ++ ks) (k ∷ ls 64) below (λ d xs. All (λ j. Not j (k ∷ ls 64)) xs)
+  unfrees d lt = subst (λ g. AllByRecursion (λ j. Not j g) (freed_lists d)) (sym (moved_free ls c (pre ++ ks) (k ∷ ls 64) below))
+      (moved_below ls c (pre ++ ks) (k ∷ ls 64) below (λ d xs. AllByRecursion (λ j. Not j (k ∷ ls 64)) xs)
       (unfree_all (pre ++ ks) not_left (kept_c (λ j. Not j (ls 64)) (fits.unfree c below)))
       (λ d lt ne. unfree_all (ls d) (not_elsewhere t ls c fits below pre k ks is d lt ne) (fits.unfree d lt)) d lt)
 
-  blanks : All (λ j. ((at freed_table j).epoch ≡ 0) × ((at freed_table j).nonce ≡ replicate 32 0)) (freed_lists 64)
+  blanks : AllByRecursion (λ j. ((at freed_table j).epoch ≡ 0) × ((at freed_table j).nonce ≡ replicate 32 0)) (freed_lists 64)
   unfolding freed_lists freed_table freed u e
-  blanks = subst (All (λ j. ((at freed_table j).epoch ≡ 0) × ((at freed_table j).nonce ≡ replicate 32 0))) (sym (moved_free ls c (pre ++ ks) (k ∷ ls 64) below)) (
+  blanks = subst (AllByRecursion (λ j. ((at freed_table j).epoch ≡ 0) × ((at freed_table j).nonce ≡ replicate 32 0))) (sym (moved_free ls c (pre ++ ks) (k ∷ ls 64) below)) (
     (ap (λ (x : Entry). x.epoch) there, ap (λ (x : Entry). x.nonce) there),
     all_pairs (λ p. (p.0 ≡ 0) × (p.1 ≡ replicate 32 0)) (pair_at t) (pair_at freed_table) (ls 64) (same_all (ls 64) (not_free t ls c fits below pre k ks is)) fits.blank,
   )

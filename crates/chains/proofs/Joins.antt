@@ -1,6 +1,6 @@
 -- Lists of chains joined to one list, and pairs put in the middle of a list. Assumes nothing.
 use Rattle.std.proofs.Common.{◌≡◌, ℕ, zero, suc, ◌+◌, ◌<◌, ◌≤◌, Bool, true, false, cond, not, eqb, ◌⊎◌, List, [], ◌∷◌, ◌++◌, map, filter, sym, refl, ap, ◌∙◌, subst, inl, inr, ⊎_elim, arith}
-use Rattle.std.specs.List.{range_with_len, flat_map, ContainsAt as Has, AllByRecursion as All}
+use Rattle.std.specs.List.{range_with_len, flat_map, ContainsAt as Has, AllByRecursion}
 use Rattle.std.proofs.lemmas.Bool.{cases_eq}
 use Rattle.std.proofs.lemmas.List.{append_assoc, map-append}
 use Rattle.std.proofs.lemmas.List.Elements.{filter-append}
@@ -42,12 +42,12 @@ split ls a (suc n) c lo hi =
     ))
     (cases_eq a c)
 
-pub all_joined : (P : ℕ → Type 0) (ls : ℕ → List ℕ) (a n : ℕ) → ((d : ℕ) → a ≤ d → d < a + n → All P (ls d)) → All P (flat_map ls (range_with_len a n))
+pub all_joined : (P : ℕ → Type 0) (ls : ℕ → List ℕ) (a n : ℕ) → ((d : ℕ) → a ≤ d → d < a + n → AllByRecursion P (ls d)) → AllByRecursion P (flat_map ls (range_with_len a n))
 all_joined P ls a zero h = tt
 all_joined P ls a (suc n) h =
     All-append P (ls a) (flat_map ls (range_with_len (a + 1) n)) (h a (omega arith) (omega arith)) (all_joined P ls (a + 1) n (λ d lo hi. h d (omega arith) (omega arith)))
 
-pub map_same : (f g : ℕ → Pair) (ks : List ℕ) → All (λ j. g j ≡ f j) ks → map g ks ≡ map f ks
+pub map_same : (f g : ℕ → Pair) (ks : List ℕ) → AllByRecursion (λ j. g j ≡ f j) ks → map g ks ≡ map f ks
 map_same f g [] a = refl
 map_same f g (k ∷ ks) a = let e = a.0 in let r = map_same f g ks a.1 in cc
 
@@ -58,7 +58,7 @@ others_map f e (k ∷ ks) =
     elim (not (eqb (f k).0 e)) as (λ b. cond b (f k ∷ others e (map f ks)) (others e (map f ks)) ≡ map f (cond b (k ∷ filter (λ j. not (eqb (f j).0 e)) ks) (filter (λ j. not (eqb (f j).0 e)) ks)))
     [ true ↦ ap (λ w. f k ∷ w) r | false ↦ r ]
 
-pub kept_same : (t u : ℕ → Bool) (ks : List ℕ) → All (λ k. u k ≡ t k) ks → filter u ks ≡ filter t ks
+pub kept_same : (t u : ℕ → Bool) (ks : List ℕ) → AllByRecursion (λ k. u k ≡ t k) ks → filter u ks ≡ filter t ks
 kept_same t u [] a = refl
 kept_same t u (k ∷ ks) a = let e = a.0 in let r = kept_same t u ks a.1 in cc
 
@@ -112,7 +112,7 @@ apart_insert (x ∷ A) B p apart new =
 
 -- a pair is looked for in its own list alone
 pub has_own : (f : ℕ → Pair) (own : Pair → ℕ) (ls : ℕ → List ℕ) (a n : ℕ) (q : Pair)
-    → ((d : ℕ) → a ≤ d → d < a + n → All (λ k. own (f k) ≡ d) (ls d))
+    → ((d : ℕ) → a ≤ d → d < a + n → AllByRecursion (λ k. own (f k) ≡ d) (ls d))
     → Has (map f (flat_map ls (range_with_len a n))) q → Has (map f (ls (own q))) q
 has_own f own ls a zero q placed h = absurd (omega (arith, h.1))
 has_own f own ls a (suc n) q placed h =
@@ -140,10 +140,10 @@ apart_remove (x ∷ A) B p apart =
     (λ h. apart_head x (A ++ p ∷ B) apart (inserted_has A B p x (inl h)))
 
 -- what holds of each pair holds where the pairs are the same
-pub all_pairs : (P : Pair → Type 0) (f g : ℕ → Pair) (ks : List ℕ) → All (λ j. g j ≡ f j) ks → All (λ j. P (f j)) ks → All (λ j. P (g j)) ks
+pub all_pairs : (P : Pair → Type 0) (f g : ℕ → Pair) (ks : List ℕ) → AllByRecursion (λ j. g j ≡ f j) ks → AllByRecursion (λ j. P (f j)) ks → AllByRecursion (λ j. P (g j)) ks
 all_pairs P f g [] s a = tt
 all_pairs P f g (k ∷ ks) s a = (subst P (sym s.0) a.0, all_pairs P f g ks s.1 a.1)
 
-pub all_both : {X : Type 0} (P Q R : X → Type 0) (xs : List X) → ((x : X) → P x → Q x → R x) → All P xs → All Q xs → All R xs
+pub all_both : {X : Type 0} (P Q R : X → Type 0) (xs : List X) → ((x : X) → P x → Q x → R x) → AllByRecursion P xs → AllByRecursion Q xs → AllByRecursion R xs
 all_both P Q R [] f a b = tt
 all_both P Q R (x ∷ xs) f a b = (f x a.0 b.0, all_both P Q R xs f a.1 b.1)

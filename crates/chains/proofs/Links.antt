@@ -1,7 +1,7 @@
 -- Chains of records as lists of numbers: what a write elsewhere leaves, that no record stands in a
 -- chain twice, and that a record can be taken out of the middle. Assumes nothing.
 use Rattle.std.proofs.Common.{◌≡◌, ℕ, zero, suc, ◌<◌, ◌≤◌, true, false, cond, eqb, List, [], ◌∷◌, ◌++◌, length, sym, refl, ap, ◌∙◌, subst, ⊎_elim, arith}
-use Rattle.std.specs.List.{AllByRecursion as All}
+use Rattle.std.specs.List.{AllByRecursion}
 use Rattle.std.proofs.lemmas.Bool.{cases_Bool, eqb-true, eqb-false, eq-eqb, ne_eqb, cond-true, cond-false}
 use Rattle.std.proofs.lemmas.List.{length-set, get_or-set_same, get_or-set_other}
 use Rattle.chains.specs.Tables.{Entry, blank, entry, put}
@@ -22,17 +22,17 @@ length_put es zero e = refl
 length_put es (suc k) e = length-set es k e
 
 -- ---- parts of what holds of each
-pub all_left : {X : Type 0} (P : X → Type 0) (xs ys : List X) → All P (xs ++ ys) → All P xs
+pub all_left : {X : Type 0} (P : X → Type 0) (xs ys : List X) → AllByRecursion P (xs ++ ys) → AllByRecursion P xs
 all_left P [] ys a = tt
 all_left P (x ∷ xs) ys a = (a.0, all_left P xs ys a.1)
 
-pub all_right : {X : Type 0} (P : X → Type 0) (xs ys : List X) → All P (xs ++ ys) → All P ys
+pub all_right : {X : Type 0} (P : X → Type 0) (xs ys : List X) → AllByRecursion P (xs ++ ys) → AllByRecursion P ys
 all_right P [] ys a = a
 all_right P (x ∷ xs) ys a = all_right P xs ys a.1
 
 -- the number is not among these
 abbrev pub Not : ℕ → List ℕ → Type 0
-Not k = All (λ j. j ≡ k → ⊥)
+Not k = AllByRecursion (λ j. j ≡ k → ⊥)
 
 -- ---- the records of a chain, in order
 abbrev pub Linked : List Entry → ℕ → List ℕ → Type 0
@@ -63,7 +63,7 @@ linked_walk es h (k ∷ ks) (suc f) l b =
       cond-false _ _ _ t ∙ ap (λ x. stop es f (entry es x).next) first ∙ more.1,
     )
 
-pub walk_linked : (es : List Entry) (f h : ℕ) → stop es f h ≡ 0 → All (λ k. k ≤ length es) (walk es f h) → Linked es h (walk es f h)
+pub walk_linked : (es : List Entry) (f h : ℕ) → stop es f h ≡ 0 → AllByRecursion (λ k. k ≤ length es) (walk es f h) → Linked es h (walk es f h)
 unfolding walk stop
 walk_linked es zero h s a = s
 walk_linked es (suc f) h s a =
@@ -72,7 +72,7 @@ walk_linked es (suc f) h s a =
     subst (Linked es h) (sym (cond-true _ [] (h ∷ walk es f (entry es h).next) t)) (eqb-true h 0 t))
     (λ (t : eqb h 0 ≡ false).
     let w : cond (eqb h 0) [] (h ∷ walk es f (entry es h).next) ≡ h ∷ walk es f (entry es h).next = cond-false _ _ _ t in
-    let a' : All (λ k. k ≤ length es) (h ∷ walk es f (entry es h).next) = subst (All (λ k. k ≤ length es)) w a in
+    let a' : AllByRecursion (λ k. k ≤ length es) (h ∷ walk es f (entry es h).next) = subst (AllByRecursion (λ k. k ≤ length es)) w a in
     let s' : stop es f (entry es h).next ≡ 0 = sym (cond-false _ 0 (stop es f (entry es h).next) t) ∙ s in
     let some : h ≡ 0 → ⊥ = eqb-false h 0 t in
     subst (Linked es h) (sym w) (refl, omega arith, a'.0, walk_linked es f (entry es h).next s' a'.1))
@@ -136,6 +136,6 @@ pub linked_start : (es fs : List Entry) (h m : ℕ) (ks : List ℕ) → Linked e
 linked_start es fs h m [] l r = l ∙ sym r
 linked_start es fs h m (k ∷ ks) l r = l.0 ∙ sym r.0
 
-pub linked_range : (es : List Entry) (h : ℕ) (ks : List ℕ) → Linked es h ks → All (λ k. k ≤ length es) ks
+pub linked_range : (es : List Entry) (h : ℕ) (ks : List ℕ) → Linked es h ks → AllByRecursion (λ k. k ≤ length es) ks
 linked_range es h [] l = tt
 linked_range es h (k ∷ ks) l = (l.2, linked_range es (entry es k).next ks l.3)

@@ -1,6 +1,6 @@
 -- A table after mark: the first free record stands at its chain's front. Assumes nothing.
 use Rattle.std.proofs.Common.{◌≡◌, ℕ, ◌+◌, ◌<◌, ◌≤◌, List, ◌∷◌, ◌++◌, map, length, set, replicate, sym, refl, ap, ◌∙◌, subst, arith}
-use Rattle.std.specs.List.{ContainsAt as Has, AllByRecursion as All}
+use Rattle.std.specs.List.{ContainsAt as Has, AllByRecursion}
 use Rattle.std.proofs.lemmas.List.{length-set, length-append, get_or-set_same, get_or-set_other, map-append}
 use Rattle.std.proofs.ByRecursion.{All-weaker}
 use Rattle.book.specs.Meaning.{Pair, Apart}
@@ -112,19 +112,19 @@ module _ (t : Table) (ls : ℕ → List ℕ) (p : Pair) (k : ℕ) (fs : List ℕ
             (head_here, link.1, omega (arith, link.2, longer), subst (λ (x : Entry). Linked es' x.next (ls c)) (sym there) (linked_frame t.entries (head t c) (ls c) k e (not_used c below) (fits.linked c (omega (arith, below)))))
             (subst (λ h. Linked es' h fs) (sym head_free) (linked_frame t.entries (at t k).next fs k e not_free link.3))
             (λ d lt ne. subst (λ h. Linked es' h (ls d)) (sym (head_other d lt ne)) (linked_frame t.entries (head t d) (ls d) k e (not_used d lt) (fits.linked d (omega arith))));
-        placed = moved_below ls c (k ∷ ls c) fs below (λ d xs. All (λ j. chain_of (entry es' j).nonce ≡ d) xs)
+        placed = moved_below ls c (k ∷ ls c) fs below (λ d xs. AllByRecursion (λ j. chain_of (entry es' j).nonce ≡ d) xs)
             (ap (λ (x : Entry). chain_of x.nonce) there, all_frame (λ x. chain_of x.nonce ≡ c) t.entries k e (ls c) (not_used c below) (fits.placed c below))
             (λ d lt ne. all_frame (λ x. chain_of x.nonce ≡ d) t.entries k e (ls d) (not_used d lt) (fits.placed d lt));
-        unfree = λ d lt. subst (λ g. All (λ j. Not j g) (ms d)) (sym (moved_free ls c (k ∷ ls c) fs below))
-            (moved_below ls c (k ∷ ls c) fs below (λ d xs. All (λ j. Not j fs) xs)
+        unfree = λ d lt. subst (λ g. AllByRecursion (λ j. Not j g) (ms d)) (sym (moved_free ls c (k ∷ ls c) fs below))
+            (moved_below ls c (k ∷ ls c) fs below (λ d xs. AllByRecursion (λ j. Not j fs) xs)
             (not_free, fewer c below) (λ d lt ne. fewer d lt) d lt);
-        blank = subst (All (λ j. ((entry es' j).epoch ≡ 0) × ((entry es' j).nonce ≡ replicate 32 0))) (sym (moved_free ls c (k ∷ ls c) fs below))
+        blank = subst (AllByRecursion (λ j. ((entry es' j).epoch ≡ 0) × ((entry es' j).nonce ≡ replicate 32 0))) (sym (moved_free ls c (k ∷ ls c) fs below))
             (all_frame (λ x. (x.epoch ≡ 0) × (x.nonce ≡ replicate 32 0)) t.entries k e fs not_free
-            (subst (All (λ j. ((at t j).epoch ≡ 0) × ((at t j).nonce ≡ replicate 32 0))) first fits.blank).1);
+            (subst (AllByRecursion (λ j. ((at t j).epoch ≡ 0) × ((at t j).nonce ≡ replicate 32 0))) first fits.blank).1);
         size = omega (arith, fits.size, count-was, count_is);
         room = omega (arith, fits.room, count-was, count_is, longer, ap length (moved_free ls c (k ∷ ls c) fs below), ap length first);
         apart = subst Apart (sym pairs_after) (apart_insert front back p (subst Apart pairs_before fits.apart) (λ h. new (subst (λ w. Has w p) (sym pairs_before) h)));
       }
     where
-      fewer : (d : ℕ) → d < 64 → All (λ j. Not j fs) (ls d)
+      fewer : (d : ℕ) → d < 64 → AllByRecursion (λ j. Not j fs) (ls d)
       fewer d lt = All-weaker (λ j. Not j (ls 64)) (λ j. Not j fs) (λ j n. (let m : Not j (k ∷ fs) = subst (Not j) first n in m.1)) (ls d) (fits.unfree d lt)

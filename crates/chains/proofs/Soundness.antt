@@ -1,6 +1,6 @@
 -- A sound table, and its chains as lists: the one from the other. Assumes nothing.
 use Rattle.std.proofs.Common.{◌≡◌, ℕ, ◌<◌, ◌≤◌, List, map, length, get_or, replicate, sym, ap, ◌∙◌, subst, arith}
-use Rattle.std.specs.List.{AllByRecursion as All}
+use Rattle.std.specs.List.{AllByRecursion}
 use Rattle.std.proofs.ByRecursion.{All-get_or, All-from_get_or}
 use Rattle.book.specs.Meaning.{Apart}
 use Rattle.chains.specs.Tables.{Table, at, head, chain_of}
@@ -42,18 +42,18 @@ module _ (t : Table) (ls : ℕ → List ℕ) (fits : Fits t ls) where
   ended c le = (ends c le).1
 
   within : Within t
-  within c i (le, b) = All-get_or (λ k. k ≤ length t.entries) (chain t c) i 0 b (subst (All (λ k. k ≤ length t.entries)) (sym (chain_is c le)) (linked_range t.entries (head t c) (ls c) (fits.linked c le)))
+  within c i (le, b) = All-get_or (λ k. k ≤ length t.entries) (chain t c) i 0 b (subst (AllByRecursion (λ k. k ≤ length t.entries)) (sym (chain_is c le)) (linked_range t.entries (head t c) (ls c) (fits.linked c le)))
 
   placed : Placed t
-  placed c i (lt, b) = All-get_or (λ k. chain_of (at t k).nonce ≡ c) (chain t c) i 0 b (subst (All (λ k. chain_of (at t k).nonce ≡ c)) (sym (chain_is c (omega arith))) (fits.placed c lt))
+  placed c i (lt, b) = All-get_or (λ k. chain_of (at t k).nonce ≡ c) (chain t c) i 0 b (subst (AllByRecursion (λ k. chain_of (at t k).nonce ≡ c)) (sym (chain_is c (omega arith))) (fits.placed c lt))
 
   unfree : Unfree t
   unfree c i j (lt, b, d, e) =
-      let apart : All (λ k. Not k (chain t 64)) (chain t c) = subst (λ w. All (λ k. Not k w) (chain t c)) (sym (chain_is 64 (omega arith))) (subst (All (λ k. Not k (ls 64))) (sym (chain_is c (omega arith))) (fits.unfree c lt)) in
+      let apart : AllByRecursion (λ k. Not k (chain t 64)) (chain t c) = subst (λ w. AllByRecursion (λ k. Not k w) (chain t c)) (sym (chain_is 64 (omega arith))) (subst (AllByRecursion (λ k. Not k (ls 64))) (sym (chain_is c (omega arith))) (fits.unfree c lt)) in
       All-get_or (λ y. y ≡ get_or (chain t c) i 0 → ⊥) (chain t 64) j 0 d (All-get_or (λ k. Not k (chain t 64)) (chain t c) i 0 b apart) e
 
   blanks : (j : ℕ) → j < length (chain t 64) → ((at t (get_or (chain t 64) j 0)).epoch ≡ 0) × ((at t (get_or (chain t 64) j 0)).nonce ≡ replicate 32 0)
-  blanks = λ j b. All-get_or (λ k. ((at t k).epoch ≡ 0) × ((at t k).nonce ≡ replicate 32 0)) (chain t 64) j 0 b (subst (All (λ k. ((at t k).epoch ≡ 0) × ((at t k).nonce ≡ replicate 32 0))) (sym (chain_is 64 (omega arith))) fits.blank)
+  blanks = λ j b. All-get_or (λ k. ((at t k).epoch ≡ 0) × ((at t k).nonce ≡ replicate 32 0)) (chain t 64) j 0 b (subst (AllByRecursion (λ k. ((at t k).epoch ≡ 0) × ((at t k).nonce ≡ replicate 32 0))) (sym (chain_is 64 (omega arith))) fits.blank)
 
   pub sound_from_fits : Sound t
   sound_from_fits = (

@@ -1,7 +1,7 @@
 -- A table after drop: each chain has lost the records of the epoch, and they stand at the free chain's
 -- front, the last one first. Assumes nothing.
 use Rattle.std.proofs.Common.{◌≡◌, ℕ, zero, suc, ◌<◌, ◌≤◌, true, false, cond, not, eqb, List, [], ◌∷◌, ◌++◌, length, filter, sym, refl, ap, ◌∙◌, subst, inr, ⊎_elim, arith}
-use Rattle.std.specs.List.{AllByRecursion as All}
+use Rattle.std.specs.List.{AllByRecursion}
 use Rattle.std.proofs.lemmas.Bool.{cases_Bool, cases_eq, eq-eqb, ne_eqb, cond-true, cond-false, not_from_true, not_from_false}
 use Rattle.std.proofs.lemmas.List.{append_assoc}
 use Rattle.std.proofs.ByRecursion.{All-append, All-weaker, all_kept_by}
@@ -23,11 +23,11 @@ go t epoch = filter (of t epoch)
 abbrev pub Same : Table → Table → ℕ → Type 0
 Same t u j = pair_at u j ≡ pair_at t j
 
-pub stay_same : (t u : Table) (e : ℕ) (ks : List ℕ) → All (Same t u) ks → stay u e ks ≡ stay t e ks
+pub stay_same : (t u : Table) (e : ℕ) (ks : List ℕ) → AllByRecursion (Same t u) ks → stay u e ks ≡ stay t e ks
 stay_same t u e ks a = kept_same (λ k. not (of t e k)) (λ k. not (of u e k)) ks
     (All-weaker (Same t u) (λ k. not (of u e k) ≡ not (of t e k)) (λ k s. ap (λ (p : Pair). not (eqb p.0 e)) s) ks a)
 
-pub go_same : (t u : Table) (e : ℕ) (ks : List ℕ) → All (Same t u) ks → go u e ks ≡ go t e ks
+pub go_same : (t u : Table) (e : ℕ) (ks : List ℕ) → AllByRecursion (Same t u) ks → go u e ks ≡ go t e ks
 go_same t u e ks a = kept_same (of t e) (of u e) ks
     (All-weaker (Same t u) (λ k. of u e k ≡ of t e k) (λ k s. ap (λ (p : Pair). eqb p.0 e) s) ks a)
 
@@ -37,10 +37,10 @@ pub record Swept (e c : ℕ) (t : Table) (ls : ℕ → List ℕ) (pre rest : Lis
   pub other : (d : ℕ) → d < 64 → (d ≡ c → ⊥) → ms d ≡ ls d
   pub here : ms c ≡ pre ++ stay t e rest
   pub frees : ms 64 ≡ fronted (go t e rest) (ls 64)
-  pub same : (d : ℕ) → d < 64 → All (Same t u) (ms d)
+  pub same : (d : ℕ) → d < 64 → AllByRecursion (Same t u) (ms d)
   pub long : length u.entries ≡ length t.entries
 
-all_refl : (t : Table) (ks : List ℕ) → All (Same t t) ks
+all_refl : (t : Table) (ks : List ℕ) → AllByRecursion (Same t t) ks
 all_refl t [] = tt
 all_refl t (k ∷ ks) = (refl, all_refl t ks)
 
@@ -79,7 +79,7 @@ gone e c t ls pre b x ks u ms fits below is before hit s =
     let vs = freed_lists t ls c pre b x ks fits below is before in
     let now-c : vs c ≡ pre ++ ks = moved_same ls c (pre ++ ks) (x ∷ ls 64) below in
     let away : (d : ℕ) → d < 64 → Not x (vs d) = not_one t ls c pre b x ks fits below is before in
-    let sames : (ys : List ℕ) → Not x ys → All (Same t v) ys = λ ys n. All-weaker (λ j. j ≡ x → ⊥) (Same t v) (freed_same t ls c pre b x ks fits below is before) ys n in
+    let sames : (ys : List ℕ) → Not x ys → AllByRecursion (Same t v) ys = λ ys n. All-weaker (λ j. j ≡ x → ⊥) (Same t v) (freed_same t ls c pre b x ks fits below is before) ys n in
     let away-c : Not x (pre ++ ks) = subst (Not x) now-c (away c below) in
     let away-pre = all_left (λ j. j ≡ x → ⊥) pre ks away-c in
     let away-ks = all_right (λ j. j ≡ x → ⊥) pre ks away-c in

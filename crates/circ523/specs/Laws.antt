@@ -4,7 +4,7 @@ use Rattle.std.proofs.Common.{ap, ◌∙◌, mod-lt, mod-eq_of_lt, arith, lit<}
 use mathlib.Core.HLevel.{is_prop→PathP}
 use Rattle.std.proofs.Math.Bridge.{le_prop}
 use Rattle.std.proofs.Math.Nat.{ℕ_set}
-use Rattle.std.specs.List.{AllByRecursion as All}
+use Rattle.std.specs.List.{AllByRecursion}
 use Rattle.numbers.proofs.Logarithms.{log_below, at_log, log_at, log_same}
 use Rattle.numbers.proofs.Codes.{only_codes, found_by_code}
 use Rattle.scalar.specs.Modulo.{modulo}
@@ -60,7 +60,7 @@ pub coded : (p : Point) → length (code_of p) ≡ 4
 unfolding code_of
 coded p = refl
 
-pub coded_bytes : (p : Point) → All (λ b. b < 256) (code_of p)
+pub coded_bytes : (p : Point) → AllByRecursion (λ b. b < 256) (code_of p)
 unfolding code_of
 coded_bytes p =
     let x = p.member.0 in

@@ -1,6 +1,6 @@
 -- circ523 in the words of the circle, and worked values.
 use Rattle.std.specs.Prelude.{◌≡◌, ℕ, List, [], ◌∷◌, None}
-use Rattle.std.specs.List.{AllByRecursion as All}
+use Rattle.std.specs.List.{AllByRecursion}
 use Rattle.numbers.specs.Bytes.{word}
 use Rattle.circle.specs.declared.Pair.{Pair}
 use Rattle.circle.specs.Circle as circle
@@ -42,6 +42,6 @@ worked =
     outside (at 104 210) ∷ outside (at 0 1) ∷
     maps 2 (at 82 434) ∷ maps 0 (at 1 0) ∷ maps 1 (at 1 0) ∷ maps 522 (at 1 0) ∷ []
 
--- All worked values hold.
+-- AllByRecursion worked values hold.
 abbrev pub Worked : Type 0
-Worked = All Holds worked
+Worked = AllByRecursion Holds worked

@@ -1,7 +1,7 @@
 -- What a station that keeps to the steps answers is accepted, item by item.
 use Rattle.std.proofs.Common.{◌≡◌, ℕ, zero, suc, ◌+◌, ◌*◌, ◌<◌, false, List, [], ◌∷◌, ◌++◌, map, length, take, drop, Ok, Result, sym, refl, ap, ◌∙◌, subst, arith, length-append, length-drop}
 use Rattle.std.specs.Option.{ok_or}
-use Rattle.std.specs.List.{AllByRecursion as All}
+use Rattle.std.specs.List.{AllByRecursion}
 use Rattle.std.proofs.lemmas.List.{append-nil, append_assoc, take_at, drop_at, drop-drop, length-take-le}
 use Rattle.std.proofs.lemmas.Bool.{eq-eqb, ne_eqb, both_ways}
 use Rattle.faults.specs.declared.GroupFault.{GroupFault}
@@ -128,7 +128,7 @@ module _ {E S K : Type 0} (m : Model E S K) where
       pub items : List E
       pub counted : length items ≡ n
       pub rowed : codes ≡ front ++ row m items
-      pub none_null : All (λ b. b ≡ null m → ⊥) items
+      pub none_null : AllByRecursion (λ b. b ≡ null m → ⊥) items
       pub tokens : List ℕ
       pub again : (first : List ℕ) → walked m (code_again m) epoch id i n seeds blinds (row m (map (answered m k) items)) first ≡ Ok (first ++ row m items)
       pub made : (first : List ℕ) → walked m (token_made m) epoch id i n seeds blinds (row m (map (answered m k) items)) first ≡ Ok (first ++ tokens)

@@ -1,6 +1,6 @@
 -- What a client gets from a station that keeps to the steps.
 use Rattle.std.specs.Prelude.{◌≡◌, ℕ, ◌*◌, ◌/◌, ◌<◌, ◌≤◌, List, map, length, take, drop, Ok, ◌≢◌}
-use Rattle.std.specs.List.{AllByRecursion as All}
+use Rattle.std.specs.List.{AllByRecursion}
 use Rattle.group.specs.Model.{Model}
 use Rattle.group.specs.Elements.{null}
 use Rattle.group.specs.Theorems.{row}
@@ -32,7 +32,7 @@ module _ {E S K : Type 0} (m : Model E S K) (k : K) (epoch : ℕ) (seeds : List 
     pub counted : length items ≡ length seeds / 64
     pub some : 1 ≤ length items
     pub few : length items ≤ 16
-    pub none_null : All (λ b. b ≢ null m) items
+    pub none_null : AllByRecursion (λ b. b ≢ null m) items
     pub accepted : (u : K) (c s : S) → proved m k u (public_key m k) (row m items) (row m (map (answered m k) items)) ≡ Ok (c, s) →
         (scratch outlet : ℕ) → 1024 ≤ scratch → 132 * length items ≤ outlet →
         (tokens : List ℕ)

@@ -2,12 +2,12 @@
 -- are not zero. Each element has one logarithm, a scalar's number, that no call tells. Whoever adds a
 -- kind gives these parts and shows these laws; all that is built on groups rests on them alone.
 use Rattle.std.specs.Prelude.{◌≡◌, ℕ, ◌%◌, ◌<◌, ◌≤◌, List, length, Some, Option}
-use Rattle.std.specs.List.{AllByRecursion as All}
+use Rattle.std.specs.List.{AllByRecursion}
 use Rattle.scalar.specs.Scalars.{Scalars}
 
 -- bytes are numbers below 256
 abbrev pub Bytes : List ℕ → Type 0
-Bytes bytes = All (λ b. b < 256) bytes
+Bytes bytes = AllByRecursion (λ b. b < 256) bytes
 
 pub record Model (E S K : Type 0) : Type 0 where
   -- the scalars, with the order of the group

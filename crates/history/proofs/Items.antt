@@ -2,7 +2,7 @@
 use Rattle.std.proofs.Common.{◌≡◌, ℕ, zero, suc, ◌+◌, ◌*◌, ◌<◌, cond, not, eqb, ltb, List, [], ◌∷◌, ◌++◌, map, length, get_or, take, drop, Some, Ok, Err, Option, Result, sym, refl, ap, ◌∙◌, subst, append_assoc, append-nil, suc-mul, zero-mul, arith, length-drop}
 use Rattle.std.proofs.lemmas.List.{take-append-drop, drop-drop, get_or-map, take_at, drop_at}
 use Rattle.std.specs.Option.{ok_or}
-use Rattle.std.specs.List.{AllByRecursion as All}
+use Rattle.std.specs.List.{AllByRecursion}
 use Rattle.faults.specs.declared.WireFault.TheVariants.{ShortScratch, WrongLength, ShortOutlet}
 use Rattle.faults.specs.declared.RingFault.TheVariants.{NotOpen}
 use Rattle.faults.specs.declared.GroupFault.{GroupFault}
@@ -58,7 +58,7 @@ module _ {E S K : Type 0} (m : Model E S K) where
       pub bs : List E
       pub many : length bs ≡ n
       pub sent : items ≡ row m bs
-      pub real : All Real bs
+      pub real : AllByRecursion Real bs
       pub answers : got ≡ front ++ row m (map (answered m k) bs)
 
     pub rows_in : (n i : ℕ) (items front got : List ℕ) → length items ≡ n * m.element_width → answer_codes m k i n items front ≡ Ok got → Rows n items front got
@@ -81,7 +81,7 @@ module _ {E S K : Type 0} (m : Model E S K) where
           answers = r.answers ∙ append_assoc front (m.code (answered m k b)) (row m (map (answered m k) r.bs));
         }
 
-    pub rows_out : (i : ℕ) (bs : List E) (front : List ℕ) → All Real bs → answer_codes m k i (length bs) (row m bs) front ≡ Ok (front ++ row m (map (answered m k) bs))
+    pub rows_out : (i : ℕ) (bs : List E) (front : List ℕ) → AllByRecursion Real bs → answer_codes m k i (length bs) (row m bs) front ≡ Ok (front ++ row m (map (answered m k) bs))
     unfolding answer_codes
     rows_out i [] front real = ap (λ x. Ok x) (sym (append-nil front))
     rows_out i (b ∷ bs) front real =
@@ -174,7 +174,7 @@ module _ {E S K : Type 0} (m : Model E S K) where
       let w = m.element_width in
       ap m.element (ap (take w) (sym (drop-drop (i * w) 5 bytes)) ∙ ap (λ xs. take w (drop (i * w) xs)) e ∙ row_item m bs i d tail h) ∙ m.decoded (get_or bs i d)
 
-  all_at : (bs : List E) (i : ℕ) (d : E) → All Real bs → i < length bs → Real (get_or bs i d)
+  all_at : (bs : List E) (i : ℕ) (d : E) → AllByRecursion Real bs → i < length bs → Real (get_or bs i d)
   all_at [] i d a h = absurd (omega arith)
   all_at (b ∷ bs) zero d a h = a.0
   all_at (b ∷ bs) (suc i) d a h = all_at bs i d a.1 (omega arith)

@@ -2,7 +2,7 @@
 use Rattle.std.proofs.Common.{◌≡◌, ℕ, ◌+◌, ◌-◌, ◌<◌, ◌≤◌, max, Bool, true, false, cond, eqb, List, [], ◌∷◌, length, Some, None, Ok, filter, Option, sym, refl, ap, ◌∙◌, subst, inl, inr, ⊎_elim, arith}
 use native.Mathlib.Nat.{le-max_left, le-max_right, max-eq_left}
 use Rattle.std.proofs.lemmas.Bool.{eqb-true, eq-eqb, ne_eqb}
-use Rattle.std.specs.List.{ContainsAt as Has, AllByRecursion as All}
+use Rattle.std.specs.List.{ContainsAt as Has, AllByRecursion}
 use Rattle.ring.specs.declared.Epoch.{Epoch}
 use Rattle.ring.specs.Places.{Place, key_in, closed, taken, full}
 use Rattle.ring.proofs.Laws.{ring_laws}
@@ -15,11 +15,11 @@ use Rattle.history.specs.Kept.{times, in_use, Tied}
 use Rattle.history.proofs.Places.{none_times, found_times, times_taken, times_closed, fewer, length_taken, length_closed}
 
 -- ---- lists that a test keeps
-kept_alike : (f g : Pair → Bool) (ps : List Pair) → All (λ p. f p ≡ g p) ps → filter f ps ≡ filter g ps
+kept_alike : (f g : Pair → Bool) (ps : List Pair) → AllByRecursion (λ p. f p ≡ g p) ps → filter f ps ≡ filter g ps
 kept_alike f g [] a = refl
 kept_alike f g (p ∷ ps) a = (λ i. cond (a.0 i) (p ∷ kept_alike f g ps a.1 i) (kept_alike f g ps a.1 i))
 
-all_more : (P Q : Pair → Type 0) (ps : List Pair) → ((p : Pair) → P p → Q p) → All P ps → All Q ps
+all_more : (P Q : Pair → Type 0) (ps : List Pair) → ((p : Pair) → P p → Q p) → AllByRecursion P ps → AllByRecursion Q ps
 all_more P Q [] f a = tt
 all_more P Q (p ∷ ps) f a = (f p a.0, all_more P Q ps f a.1)
 
@@ -74,7 +74,7 @@ module _ {K : Type 0} (capacity : ℕ) where
         let x : Epoch K = record { number = e; key = k } in
         let laws = ring_laws K in
         let none : key_in ps e ≡ None = t.keys e ∙ key_none e up (key e) refl in
-        let same : All (λ p. present (key p.0) ≡ present (cond (eqb e p.0) told (key p.0))) done =
+        let same : AllByRecursion (λ p. present (key p.0) ≡ present (cond (eqb e p.0) told (key p.0))) done =
         all_more (λ p. p.0 ≤ high) (λ p. present (key p.0) ≡ present (cond (eqb e p.0) told (key p.0))) done
         (λ p h. let other : eqb e p.0 ≡ false = ne_eqb e p.0 (λ q. omega arith) in sym (ap (λ c. present (cond c told (key p.0))) other)) t.below in
         let kept = kept_alike (λ p. present (key p.0)) (λ p. present (cond (eqb e p.0) told (key p.0))) done same in

@@ -1,6 +1,6 @@
 -- What a station's ring and book are to the history that led to them.
 use Rattle.std.specs.Prelude.{◌≡◌, ℕ, ◌+◌, ◌≤◌, cond, List, [], ◌∷◌, length, Some, None, filter, Option, ◌==◌}
-use Rattle.std.specs.List.{ContainsAt as Has, AllByRecursion as All}
+use Rattle.std.specs.List.{ContainsAt as Has, AllByRecursion}
 use Rattle.group.specs.Model.{Model}
 use Rattle.ring.specs.Places.{Place, key_in, open_count}
 use Rattle.book.specs.Meaning.{Pair, Apart, Meaning, In, Exactly}
@@ -32,7 +32,7 @@ pub record Tied {K : Type 0} (capacity : ℕ) (key : ℕ → Option K) (number h
   pub these : (q : Pair) → Exactly (In b q) (Has (in_use key done) q)
   pub apart : Apart done
   pub room : b.capacity ≡ capacity
-  pub below : All (λ p. p.0 ≤ high) done
+  pub below : AllByRecursion (λ p. p.0 ≤ high) done
   pub bound : (e : ℕ) (k : K) → key e ≡ Some k → e ≤ high
 
 module _ {E S K : Type 0} (m : Model E S K) (capacity : ℕ) where

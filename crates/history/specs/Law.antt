@@ -1,7 +1,7 @@
 -- The law over every run, for every kind of group and of book: what holds of a whole history of calls and answers,
 -- the latest event first.
 use Rattle.std.specs.Prelude.{◌≡◌, ℕ, ◌*◌, ◌/◌, ◌<◌, ◌≤◌, List, [], ◌∷◌, ◌++◌, length, take, drop, Some, None, Ok, Err, filter, Option, Result, nat_eq}
-use Rattle.std.specs.List.{ContainsAt as Has, AllByRecursion as All}
+use Rattle.std.specs.List.{ContainsAt as Has, AllByRecursion}
 use Rattle.faults.specs.declared.RingFault.TheVariants.{NotOpen}
 use Rattle.faults.specs.declared.BookFault.TheVariants.{Spent, Full}
 use Rattle.faults.specs.declared.StationFault.{StationFault}
@@ -90,7 +90,7 @@ module _ {E S K : Type 0} (m : Model E S K) where
   -- Unlinkable: any list of accepted tokens beside answered items of their epochs has one blinding, so what a shop sent fits
   -- every token of the epoch equally well.
   abbrev pub Unlinkable : List Event → Type 0
-  Unlinkable h = (xs : List (List ℕ × Item E)) → All (Beside h) xs → OneBlinding xs
+  Unlinkable h = (xs : List (List ℕ × Item E)) → AllByRecursion (Beside h) xs → OneBlinding xs
 
   -- ---- bytes that a redeem must accept after what came before: a token, its epoch is open, it is good under the epoch's key,
   -- its pair was never accepted, and a place is free

@@ -1,7 +1,7 @@
 -- Numbers in bytes.
 use Rattle.std.proofs.Common.{◌≡◌, ℕ, zero, suc, ◌+◌, ◌*◌, ◌/◌, ◌%◌, ◌^◌, ◌<◌, ◌≤◌, true, ltb, List, [], ◌∷◌, ◌++◌, length, get_or, take, sym, refl, ap, ◌∙◌, subst, mod-lt, pow-suc, add-one, arith, lit<, length-append, take_all, w8, Fits}
 use native.Mathlib.Nat.{mod-add-div, pow-zero}
-use Rattle.std.specs.List.{AllByRecursion as All}
+use Rattle.std.specs.List.{AllByRecursion}
 use Rattle.std.proofs.lemmas.Int.Digits.{number_push, number_more}
 use Rattle.std.proofs.lemmas.Nat.{div_below, div-mul-add, mod-mul-add}
 use Rattle.std.proofs.lemmas.List.{take_more}
@@ -47,7 +47,7 @@ length_written (suc w) n =
     let before = length_written w (n / 256) in
     length-append (written w (n / 256)) (n % 256 ∷ []) ∙ omega arith
 
-pub bytes_written : (w n : ℕ) → All (λ b. b < 256) (written w n)
+pub bytes_written : (w n : ℕ) → AllByRecursion (λ b. b < 256) (written w n)
 bytes_written zero n = tt
 bytes_written (suc w) n = All-push (λ b. b < 256) (written w (n / 256)) (n % 256) (bytes_written w (n / 256)) (mod-lt n {m = 256} (lit< tt))
 
@@ -57,7 +57,7 @@ read_written (suc w) n h =
     let small : n / 256 < 256 ^ w = div_below n 256 (256 ^ w) (lit< tt) (subst (λ (x : ℕ). n < x) (pow-suc 256 w) h) in
     number_push 256 (written w (n / 256)) (n % 256) ∙ ap (λ (x : ℕ). x * 256 + n % 256) (read_written w (n / 256) small) ∙ omega (arith, mod-add-div n 256)
 
-written_part : (xs : List ℕ) → All (λ b. b < 256) xs → (i : ℕ) → i ≤ length xs → written i (read (take i xs)) ≡ take i xs
+written_part : (xs : List ℕ) → AllByRecursion (λ b. b < 256) xs → (i : ℕ) → i ≤ length xs → written i (read (take i xs)) ≡ take i xs
 written_part xs a zero h = refl
 written_part xs a (suc i) h =
     let d = get_or xs i 0 in
@@ -69,7 +69,7 @@ written_part xs a (suc i) h =
     ap (λ ys. ys ++ (d ∷ [])) (written_part xs a i (omega arith)) ∙ sym (take_more xs i 0 h) ∙ ap (λ (k : ℕ). take k xs) (add-one i)
 
 -- bytes are what their number is written as
-pub written_read : (xs : List ℕ) → All (λ b. b < 256) xs → written (length xs) (read xs) ≡ xs
+pub written_read : (xs : List ℕ) → AllByRecursion (λ b. b < 256) xs → written (length xs) (read xs) ≡ xs
 written_read xs a =
     let all = take_all (length xs) xs (omega arith) in
     ap (λ ys. written (length xs) (read ys)) (sym all) ∙ written_part xs a (length xs) (omega arith) ∙ all
@@ -81,12 +81,12 @@ slice_bytes (x ∷ xs) f =
     let small : x < 256 = omega (arith, f 0) in
     and_from (ltb x 256) (are_bytes xs) (lt-ltb x 256 small) (slice_bytes xs (λ i. f (suc i)))
 
-pub bytes_below : (xs : List ℕ) → are_bytes xs ≡ true → All (λ b. b < 256) xs
+pub bytes_below : (xs : List ℕ) → are_bytes xs ≡ true → AllByRecursion (λ b. b < 256) xs
 bytes_below [] e = tt
 bytes_below (x ∷ xs) e =
     let both = and_parts (ltb x 256) (are_bytes xs) e in
     (ltb-true x 256 both.0, bytes_below xs both.1)
 
-pub below_bytes : (xs : List ℕ) → All (λ b. b < 256) xs → are_bytes xs ≡ true
+pub below_bytes : (xs : List ℕ) → AllByRecursion (λ b. b < 256) xs → are_bytes xs ≡ true
 below_bytes [] a = refl
 below_bytes (x ∷ xs) a = and_from (ltb x 256) (are_bytes xs) (lt-ltb x 256 a.0) (below_bytes xs a.1)

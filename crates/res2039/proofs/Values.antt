@@ -1,6 +1,6 @@
 -- The worked values, each computed.
 use Rattle.std.proofs.Common.{◌≡◌, ℕ, ◌+◌, ◌*◌, ◌%◌, true, List, Some, None, refl, ap}
-use Rattle.std.specs.List.{AllByRecursion as All}
+use Rattle.std.specs.List.{AllByRecursion}
 use Rattle.numbers.specs.Bytes.{written, word}
 use Rattle.numbers.specs.Sought.{sought}
 use Rattle.scalar.specs.Laws.{scalar_at}
@@ -24,7 +24,7 @@ takes : (s : Scalar 1019) (a b : ℕ) (d : is_member a ≡ true) (e : is_member 
 unfolding the
 takes s a b d e f g h = (the a d, the b e, f, g, same_value (multiple residues s (the a d)) (the b e) h)
 
-values_of_multiples : All (λ r. Takes (scalar r.0) r.1 r.2) multiples
+values_of_multiples : AllByRecursion (λ r. Takes (scalar r.0) r.1 r.2) multiples
 unfolding the element_of multiple modulo scalar_at logarithm power_of_4 sought
 values_of_multiples =
     let one = takes (scalar 3) 4 64 refl refl refl refl refl in
@@ -34,17 +34,17 @@ values_of_multiples =
     let five = takes (scalar 2) 362 548 refl refl refl refl refl in
     (one, (two, (three, (four, (five, tt)))))
 
-no_codes : All (λ bytes. residues.element bytes ≡ None) refused
+no_codes : AllByRecursion (λ bytes. residues.element bytes ≡ None) refused
 unfolding element_of
 no_codes = (refl, (refl, (refl, tt)))
 
-values_of_maps : All (λ r. (bytes : List ℕ) → word bytes ≡ r.0 → (residues.map bytes).value ≡ r.1) maps
+values_of_maps : AllByRecursion (λ r. (bytes : List ℕ) → word bytes ≡ r.0 → (residues.map bytes).value ≡ r.1) maps
 unfolding mapped
 values_of_maps =
     let square = λ (n : ℕ). (1 + n % 2038) * (1 + n % 2038) % 2039 in
     (λ bytes e. ap square e, (λ bytes e. ap square e, (λ bytes e. ap square e, tt)))
 
-values_of_orders : All Ordered orders
+values_of_orders : AllByRecursion Ordered orders
 unfolding the element_of multiple modulo scalar_at logarithm power_of_4 sought inverse_number
 values_of_orders =
     let inverse = residues.scalars.inverse in

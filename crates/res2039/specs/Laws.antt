@@ -6,7 +6,7 @@ use Rattle.std.proofs.Math.Bridge.{le_prop}
 use Rattle.std.proofs.Math.Nat.{ℕ_set, mod-add-div}
 use Rattle.std.proofs.lemmas.Bool.{eqb-true, lt-ltb, and_from, and_parts}
 use Rattle.std.proofs.lemmas.Nat.{div_below}
-use Rattle.std.specs.List.{AllByRecursion as All}
+use Rattle.std.specs.List.{AllByRecursion}
 use Rattle.numbers.specs.Bytes.{are_bytes, read, written}
 use Rattle.numbers.specs.Cycle.{Member}
 use Rattle.numbers.proofs.Bytes.{below_bytes, bytes_below, written_read}
@@ -43,7 +43,7 @@ pub coded : (x : Residue) → length (code_of x) ≡ 2
 unfolding code_of
 coded x = refl
 
-pub coded_bytes : (x : Residue) → All (λ b. b < 256) (code_of x)
+pub coded_bytes : (x : Residue) → AllByRecursion (λ b. b < 256) (code_of x)
 unfolding code_of
 coded_bytes x =
     let small = x.member.0 in

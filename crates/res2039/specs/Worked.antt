@@ -1,6 +1,6 @@
 -- Worked values of res2039, and the sentence that holds of all of them.
 use Rattle.std.specs.Prelude.{◌≡◌, ℕ, List, [], ◌∷◌, Some, None}
-use Rattle.std.specs.List.{AllByRecursion as All}
+use Rattle.std.specs.List.{AllByRecursion}
 use Rattle.numbers.specs.Bytes.{written, word}
 use Rattle.scalar.specs.declared.modular.Scalar.{Scalar}
 use Rattle.group.specs.Elements.{multiple}
@@ -39,5 +39,5 @@ Ordered r =
 
 abbrev pub Worked : Type 0
 Worked =
-    All (λ r. Takes (scalar r.0) r.1 r.2) multiples × All (λ bytes. residues.element bytes ≡ None) refused ×
-    All (λ r. (bytes : List ℕ) → word bytes ≡ r.0 → (residues.map bytes).value ≡ r.1) maps × All Ordered orders
+    AllByRecursion (λ r. Takes (scalar r.0) r.1 r.2) multiples × AllByRecursion (λ bytes. residues.element bytes ≡ None) refused ×
+    AllByRecursion (λ r. (bytes : List ℕ) → word bytes ≡ r.0 → (residues.map bytes).value ≡ r.1) maps × AllByRecursion Ordered orders

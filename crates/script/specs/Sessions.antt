@@ -14,7 +14,7 @@ use Rattle.script.specs.Statements.{Parts, command_at, statement}
 use Rattle.script.specs.Tasks.{Asked, digest, group, decode, map, base, input, direct, book, call, then, asked, asked_of}
 use Rattle.script.specs.declared.answers.Answer.{Answer}
 use Rattle.script.specs.declared.answers.Report.{Report}
-use Rattle.script.specs.declared.commands.Command.{Command}
+use Rattle.script.specs.declared.command.Command.{Command}
 use Rattle.script.specs.declared.errors.LineFault.{LineFault}
 use Rattle.script.specs.declared.session.Order.{Order}
 use Rattle.script.specs.declared.errors.LineFault.TheVariants.{NoBook, Memory}

@@ -6,7 +6,7 @@ use Rattle.std.specs.Str.{bytes_eq}
 use Rattle.text.specs.Classes.{name_character}
 use Rattle.text.specs.Lines.{left}
 use Rattle.script.specs.Commands.{command_of}
-use Rattle.script.specs.declared.commands.Command.{Command}
+use Rattle.script.specs.declared.command.Command.{Command}
 use Rattle.script.specs.declared.errors.LineFault.{LineFault}
 use Rattle.script.specs.declared.errors.LineFault.TheVariants.{UnknownCommand, MissingWord, BadName}
 use Rattle.script.specs.declared.statements.Statement.{Statement}

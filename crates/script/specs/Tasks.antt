@@ -7,8 +7,8 @@ use Rattle.commands.specs.declared.Kind.{Kind}
 use Rattle.text.specs.Decimals.{numeral}
 use Rattle.text.specs.declared.decimal.NumberFault.{NumberFault}
 use Rattle.script.specs.Arguments.{Table, argument}
-use Rattle.script.specs.declared.commands.Command.{Command}
-use Rattle.script.specs.declared.commands.Command.TheVariants.{Digest, Group, Decode, Map, Base, Input, Direct, Book, Mark, Has, Drop, Size, Clear, Image}
+use Rattle.script.specs.declared.command.Command.{Command}
+use Rattle.script.specs.declared.command.Command.TheVariants.{Digest, Group, Decode, Map, Base, Input, Direct, Book, Mark, Has, Drop, Size, Clear, Image}
 use Rattle.script.specs.declared.errors.LineFault.{LineFault}
 use Rattle.script.specs.declared.errors.LineFault.TheVariants.{MissingWord, ExtraWord, NoNumber, UnknownGroup, UnknownBook, Memory}
 use Rattle.script.specs.declared.tasks.Call as tasks

@@ -3,7 +3,7 @@ ghost use Rattle.std.specs.Prelude.{◌≡◌};
 ghost use Rattle.text.specs.Appending.{Appends};
 ghost use Rattle.script.specs.Reports.{printed, AnswersAreArguments};
 
-use crate::commands::Command;
+use crate::command::Command;
 use commands::Kind;
 use faults::Refusal;
 use std::alloc::AllocError;

@@ -9,7 +9,7 @@ ghost use Rattle.script.specs.Sessions.{performed, batched, chosen, Answers, Sto
 ghost use Rattle.script.specs.Tasks.{asked_of};
 
 use crate::answers::{Answer, Report};
-use crate::commands::Command;
+use crate::command::Command;
 use crate::errors::LineFault;
 use crate::names::Names;
 use crate::tasks::Task;

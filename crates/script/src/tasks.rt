@@ -6,7 +6,7 @@ ghost use Rattle.script.specs.Kept.{holds};
 ghost use Rattle.script.specs.Statements.{command_at};
 ghost use Rattle.script.specs.Tasks.{asked, at_end, kind_at, shelf_of, Brings, Numbers, Shelves, One, Two, Three, Asks};
 
-use crate::commands::Command;
+use crate::command::Command;
 use crate::errors::LineFault;
 use crate::names::Names;
 use crate::statements::Statement;

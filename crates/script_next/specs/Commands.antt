@@ -1,8 +1,8 @@
 -- The words that call commands.
 use Rattle.std.specs.Prelude.{ℕ, cond, List, [], ◌∷◌, Some, None, codes, Option}
 use Rattle.std.specs.Str.{bytes_eq}
-use Rattle.script_next.specs.declared.commands.Command.{Command}
-use Rattle.script_next.specs.declared.commands.Command.TheVariants.{Digest, Group, Decode, Map, Base, Input, Direct, Book, Mark, Has, Drop, Size, Clear, Image, Protocol}
+use Rattle.script_next.specs.declared.command.Command.{Command}
+use Rattle.script_next.specs.declared.command.Command.TheVariants.{Digest, Group, Decode, Map, Base, Input, Direct, Book, Mark, Has, Drop, Size, Clear, Image, Protocol}
 use Rattle.script_next.specs.declared.protocol.Word.TheVariants as word
 use Rattle.script_next.specs.Protocol.{protocol_word}
 

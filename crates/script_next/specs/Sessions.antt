@@ -15,7 +15,7 @@ use Rattle.script_next.specs.Statements.{Parts, command_at, statement}
 use Rattle.script_next.specs.Tasks.{Asked, digest, group, decode, map, base, input, direct, book, call, protocol, asked, asked_of}
 use Rattle.script_next.specs.declared.answers.Answer.{Answer}
 use Rattle.script_next.specs.declared.answers.Report.{Report}
-use Rattle.script_next.specs.declared.commands.Command.{Command}
+use Rattle.script_next.specs.declared.command.Command.{Command}
 use Rattle.script_next.specs.declared.errors.LineFault.{LineFault}
 use Rattle.script_next.specs.declared.session.Order.{Order}
 use Rattle.script_next.specs.declared.errors.LineFault.TheVariants.{NoBook, NoStation, Memory}

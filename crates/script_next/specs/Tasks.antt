@@ -4,8 +4,8 @@ use Rattle.commands.specs.declared.Kind.{Kind}
 use Rattle.script_next.specs.Arguments.{Table}
 use Rattle.script_next.specs.Protocol.{Acted, acted, acted_of}
 use Rattle.script_next.specs.Reading.{then, at_end, rest_of, first_number, shelf_and_length, kind_at, one_of, two_of, three_of}
-use Rattle.script_next.specs.declared.commands.Command.{Command}
-use Rattle.script_next.specs.declared.commands.Command.TheVariants.{Digest, Group, Decode, Map, Base, Input, Direct, Book, Mark, Has, Drop, Size, Clear, Image, Protocol}
+use Rattle.script_next.specs.declared.command.Command.{Command}
+use Rattle.script_next.specs.declared.command.Command.TheVariants.{Digest, Group, Decode, Map, Base, Input, Direct, Book, Mark, Has, Drop, Size, Clear, Image, Protocol}
 use Rattle.script_next.specs.declared.errors.LineFault.{LineFault}
 use Rattle.script_next.specs.declared.errors.LineFault.TheVariants.{Memory}
 use Rattle.script_next.specs.declared.reading.Shelf.{Shelf}

@@ -10,7 +10,7 @@
 
 pub mod answers;
 pub mod arguments;
-pub mod commands;
+pub mod command;
 pub mod errors;
 pub mod names;
 pub mod protocol;

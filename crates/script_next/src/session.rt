@@ -10,7 +10,7 @@ ghost use Rattle.script_next.specs.Statements.{statement};
 ghost use Rattle.script_next.specs.Tasks.{asked_of};
 
 use crate::answers::{Answer, Report};
-use crate::commands::Command;
+use crate::command::Command;
 use crate::errors::LineFault;
 use crate::names::Names;
 use crate::tasks::Task;

@@ -4,7 +4,7 @@ ghost use Rattle.std.specs.Option.{option_map};
 ghost use Rattle.text.specs.Lines.{left, line_words};
 ghost use Rattle.script_next.specs.Statements.{command_at, calling, naming, statement, parsed};
 
-use crate::commands::Command;
+use crate::command::Command;
 use crate::errors::LineFault;
 use text::class::Class;
 use text::words::Words;

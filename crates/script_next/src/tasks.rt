@@ -6,7 +6,7 @@ ghost use Rattle.script_next.specs.Kept.{holds};
 ghost use Rattle.script_next.specs.Statements.{command_at};
 ghost use Rattle.script_next.specs.Tasks.{asked, Asks};
 
-use crate::commands::Command;
+use crate::command::Command;
 use crate::errors::LineFault;
 use crate::names::Names;
 use crate::protocol::Action;

@@ -1,7 +1,7 @@
 -- That memory is the image of its pairs, and what follows from that. Assumes nothing.
 use Rattle.std.proofs.Common.{◌≡◌, ℕ, zero, suc, ◌+◌, ◌-◌, ◌*◌, ◌/◌, ◌%◌, ◌<◌, ◌≤◌, List, [], ◌∷◌, ◌++◌, length, get_or, take, drop, replicate, sym, refl, ap, ◌∙◌, add-one, arith, w8, Fits}
 use mir.Facts.{Fits-lt-pow}
-use Rattle.std.specs.List.{flat_map, AllByRecursion as All}
+use Rattle.std.specs.List.{flat_map, AllByRecursion}
 use Rattle.std.proofs.lemmas.Nat.{div-mul-add, mod-mul-add}
 use Rattle.std.proofs.lemmas.List.{append_assoc, same_lists, drop_more, drop-drop, drop_at, take-append-drop, length-append, length-take-le, length-drop, length-replicate, get_or-take, get_or-drop, get_or_default, get_or_append_left, get_or-replicate, flat_map_more}
 use Rattle.std.proofs.lemmas.List.FromFn.{map-range_with_len_more}
@@ -71,7 +71,7 @@ laid_from_blank m cap fitting within b blank =
     ∙ ap (λ s. two s ++ (flat_map record_of (pairs_of m) ++ (replicate (34 * (cap - s)) 0 ++ later m cap))) (sym (size_is m))
 
 -- ---- from the image to the bytes
-length_records : (ps : List Pair) → All Shaped ps → length (flat_map record_of ps) ≡ 34 * length ps
+length_records : (ps : List Pair) → AllByRecursion Shaped ps → length (flat_map record_of ps) ≡ 34 * length ps
 length_records [] all = refl
 length_records (p ∷ ps) all =
     let rest = length_records ps all.1 in

@@ -1,6 +1,6 @@
 -- That an image is read back as the pairs that it was made of. Assumes nothing.
 use Rattle.std.proofs.Common.{◌≡◌, ℕ, suc, ◌+◌, ◌-◌, ◌*◌, ◌/◌, ◌%◌, List, [], ◌∷◌, ◌++◌, map, length, get_or, take, drop, replicate, sym, refl, ap, ◌∙◌, add-zero, arith}
-use Rattle.std.specs.List.{range_with_len, flat_map, AllByRecursion as All}
+use Rattle.std.specs.List.{range_with_len, flat_map, AllByRecursion}
 use Rattle.std.proofs.lemmas.Nat.{div-add-mod'}
 use Rattle.std.proofs.lemmas.List.{append_assoc, drop-drop, drop_at, take_at, get_or-drop}
 use Rattle.book.specs.Meaning.{Pair, Shaped}
@@ -16,7 +16,7 @@ pair_read m rest at p is shaped =
     ap (take 32) (sym (drop-drop 2 at m) ∙ ap (drop 2) is) ∙ take_at p.1 rest 32 shaped in
     (λ i. (epoch i, nonce i))
 
-records_read : (ps : List Pair) (m rest : List ℕ) (i : ℕ) → drop (place i) m ≡ flat_map record_of ps ++ rest → All Shaped ps
+records_read : (ps : List Pair) (m rest : List ℕ) (i : ℕ) → drop (place i) m ≡ flat_map record_of ps ++ rest → AllByRecursion Shaped ps
     → map (λ j. pair_at m (place j)) (range_with_len i (length ps)) ≡ ps
 records_read [] m rest i is all = refl
 records_read (p ∷ ps) m rest i is all =

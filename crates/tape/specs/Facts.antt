@@ -1,7 +1,7 @@
 -- That the pairs on a tape keep to the laws of a book.
 use Rattle.std.specs.Prelude.{◌≡◌, ℕ, ◌+◌, ◌-◌, ◌/◌, ◌<◌, ◌≤◌, List, [], length, drop}
 use Rattle.std.proofs.Common.{sym, subst, arith}
-use Rattle.std.specs.List.{AllByRecursion as All}
+use Rattle.std.specs.List.{AllByRecursion}
 use Rattle.std.proofs.lemmas.List.{length-take-le, length-drop}
 use Rattle.std.proofs.lemmas.List.FromFn.{length-map-range_with_len, get_or-map-range_with_len}
 use Rattle.std.proofs.ByRecursion.{All-from_get_or}
@@ -18,7 +18,7 @@ room_fits m cap (whole, is) =
 pub size_is : (m : List ℕ) → length (pairs_of m) ≡ word m 0
 size_is m = length-map-range_with_len (λ j. pair_at m (place j)) 0 (word m 0)
 
-pub pairs_shaped : (m : List ℕ) (cap : ℕ) → Fitting m cap → word m 0 ≤ cap → All Shaped (pairs_of m)
+pub pairs_shaped : (m : List ℕ) (cap : ℕ) → Fitting m cap → word m 0 ≤ cap → AllByRecursion Shaped (pairs_of m)
 pairs_shaped m cap fitting within = All-from_get_or Shaped (pairs_of m) (0, []) (λ i h.
     let b : i < word m 0 = omega (arith, size_is m) in
     let inside : place i + 34 ≤ length m = let c = fitting.2 in omega arith in

@@ -1,6 +1,6 @@
 -- What follows from the layout, for every tape.
 use Rattle.std.specs.Prelude.{◌≡◌, ℕ, ◌+◌, ◌<◌, ◌≤◌, List, Ok, Err, Result}
-use Rattle.std.specs.List.{AllByRecursion as All}
+use Rattle.std.specs.List.{AllByRecursion}
 use Rattle.faults.specs.declared.WireFault.{WireFault}
 use Rattle.faults.specs.declared.WireFault.TheVariants.{WrongLength}
 use Rattle.book.specs.Meaning.{Pair, Shaped}
@@ -14,7 +14,7 @@ Most len (Err f) = (len < place 1) × (f ≡ WrongLength)
 
 -- What an image holds is read back from it, pair by pair and in their order.
 abbrev pub ReadBack : Type 0
-ReadBack = (ps : List Pair) (cap : ℕ) (rest : List ℕ) → All Shaped ps → pairs_of (image ps cap rest) ≡ ps
+ReadBack = (ps : List Pair) (cap : ℕ) (rest : List ℕ) → AllByRecursion Shaped ps → pairs_of (image ps cap rest) ≡ ps
 
 -- No byte is free: tapes of the same pairs in the same order, with the same capacity and the same later
 -- bytes, are the same memory.

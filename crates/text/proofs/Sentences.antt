@@ -3,7 +3,7 @@ use Rattle.std.proofs.Common.{◌≡◌, ℕ, suc, ◌+◌, ◌<◌, Bool, true,
 use Rattle.std.proofs.lemmas.List.{drop_all}
 use Rattle.std.proofs.lemmas.Bool.{and_parts, both_ways, not-false}
 use Rattle.std.proofs.lemmas.Bool.Decides.{nat_tests}
-use Rattle.std.specs.List.{prefix_len, AllByRecursion as All}
+use Rattle.std.specs.List.{prefix_len, AllByRecursion}
 use Rattle.text.specs.Classes.{blank, solid, code}
 use Rattle.text.specs.Lines.{before_comment, starts_solid, onto_first, words, line_words, in_word, Word, Ends, Laid, nothing, comment, gap, word, spaced, OneReading}
 
@@ -28,7 +28,7 @@ words_end c cs e s =
     ∙ ap (λ b. cond b (onto_first c (words cs)) ((c ∷ []) ∷ words cs)) s
 
 -- a word and what may follow it
-first_word : (w u : List ℕ) → 0 < length w → All (λ c. solid c ≡ true) w → starts_solid u ≡ false → words (w ++ u) ≡ w ∷ words u
+first_word : (w u : List ℕ) → 0 < length w → AllByRecursion (λ c. solid c ≡ true) w → starts_solid u ≡ false → words (w ++ u) ≡ w ∷ words u
 first_word [] u some all end = absurd (omega arith)
 first_word (c ∷ []) u some all end = words_end c u all.0 end
 first_word (c ∷ d ∷ w) u some all end =
@@ -186,11 +186,11 @@ laid [] = nothing
 laid (c ∷ cs) = by_code c cs (laid cs) (code c) refl
 
 -- a word in front of a line, up to the comment
-word_before : (w t : List ℕ) → All (λ c. in_word c ≡ true) w → before_comment (w ++ t) ≡ w ++ before_comment t
+word_before : (w t : List ℕ) → AllByRecursion (λ c. in_word c ≡ true) w → before_comment (w ++ t) ≡ w ++ before_comment t
 word_before [] t all = refl
 word_before (c ∷ w) t all = comment_on c (w ++ t) (in_word_parts c all.0).1 ∙ ap (λ l. c ∷ l) (word_before w t all.1)
 
-all_solid : (w : List ℕ) → All (λ c. in_word c ≡ true) w → All (λ c. solid c ≡ true) w
+all_solid : (w : List ℕ) → AllByRecursion (λ c. in_word c ≡ true) w → AllByRecursion (λ c. solid c ≡ true) w
 all_solid [] all = tt
 all_solid (c ∷ w) all = ((in_word_parts c all.0).0, all_solid w all.1)
 
@@ -203,7 +203,7 @@ alone (gap {c} {t} b l) =
 alone (word {line} {w} {t} some end l split) =
     ap line_words split ∙ ap words (word_before w t some.1) ∙ first_word w (before_comment t) some.0 (all_solid w some.1) (not_solid t end) ∙ ap (λ v. w ∷ v) (alone l)
 
-spaced_laid : (ws : List (List ℕ)) → All Word ws → Laid (spaced ws) ws
+spaced_laid : (ws : List (List ℕ)) → AllByRecursion Word ws → Laid (spaced ws) ws
 spaced_laid [] all = nothing
 spaced_laid (w ∷ []) all = word all.0 tt nothing (sym (append-nil w))
 spaced_laid (w ∷ v ∷ ws) all = word all.0 refl (gap refl (spaced_laid (v ∷ ws) all.1)) refl

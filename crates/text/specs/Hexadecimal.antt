@@ -1,6 +1,6 @@
 -- Bytes in hexadecimal: how they are written, what a text is read as, and the law that joins the two.
 use Rattle.std.specs.Prelude.{◌≡◌, ℕ, ◌+◌, ◌-◌, ◌*◌, ◌/◌, ◌%◌, ◌<◌, ◌≤◌, Bool, cond, ◌&&◌, List, [], ◌∷◌, ◌++◌, length, take, Ok, Err, vec_items, vec_len, vec_capacity, Result, Vec, ◌==◌, ◌≢◌, nat_lt}
-use Rattle.std.specs.List.{prefix_len, AllByRecursion as All}
+use Rattle.std.specs.List.{prefix_len, AllByRecursion}
 use Rattle.std.specs.declared.alloc.Global.{Global}
 use Rattle.text.specs.Classes.{hex_digit}
 use Rattle.text.specs.declared.hex.HexFault.{HexFault}
@@ -42,7 +42,7 @@ Reads t v w (Err Memory) = (reading t ≡ Ok (paired t)) × (vec_items w ≡ vec
 
 -- numbers that are bytes
 abbrev pub Bytes : List ℕ → Type 0
-Bytes bs = All (λ b. b < 256) bs
+Bytes bs = AllByRecursion (λ b. b < 256) bs
 
 -- a text with which the written form of some bytes begins
 abbrev pub Begins : List ℕ → Type 0

@@ -1,7 +1,7 @@
 -- The words of a line: what they are, and the law that a line has one reading.
 use Rattle.std.specs.Prelude.{◌≡◌, ℕ, ◌<◌, Bool, true, false, cond, ◌&&◌, List, [], ◌∷◌, ◌++◌, length, take, Some, None, Option}
 use Rattle.std.specs.Borrow.{Bor}
-use Rattle.std.specs.List.{prefix_len, AllByRecursion as All}
+use Rattle.std.specs.List.{prefix_len, AllByRecursion}
 use Rattle.text.specs.Classes.{blank, solid, code}
 use Rattle.text.specs.declared.words.Words.{Words}
 
@@ -43,7 +43,7 @@ in_word c = solid c && code c
 
 -- a word has such characters only, and at least one
 abbrev pub Word : List ℕ → Type 0
-Word w = (0 < length w) × All (λ c. in_word c ≡ true) w
+Word w = (0 < length w) × AllByRecursion (λ c. in_word c ≡ true) w
 
 -- a word may end before this text
 abbrev pub Ends : List ℕ → Type 0
@@ -69,4 +69,4 @@ spaced (w ∷ v ∷ ws) = w ++ 32 ∷ spaced (v ∷ ws)
 pub record OneReading : Type 0 where
   pub laid : (line : List ℕ) → Laid line (line_words line)
   pub alone : (line : List ℕ) (ws : List (List ℕ)) → Laid line ws → line_words line ≡ ws
-  pub joined : (ws : List (List ℕ)) → All Word ws → line_words (spaced ws) ≡ ws
+  pub joined : (ws : List (List ℕ)) → AllByRecursion Word ws → line_words (spaced ws) ≡ ws

@@ -4,9 +4,9 @@ use Rattle.std.proofs.lemmas.List.{at_drop_more, at_drop_all}
 use Rattle.std.proofs.lemmas.Bool.{both_ways}
 use Rattle.std.specs.Str.{bytes_eq}
 use Rattle.script_next.specs.Commands.{commands, word_of, called}
-use Rattle.script_next.specs.declared.commands.Command.TheVariants.{Digest}
+use Rattle.script_next.specs.declared.command.Command.TheVariants.{Digest}
 use Rattle.script_next.proofs.Table.{same, differ}
-use Rattle.script_next.proofs.commands.Command.of.Goals as goal
+use Rattle.script_next.proofs.command.Command.of.Goals as goal
 use Rattle.std.proofs.lemmas.Bool.Decides.{Decides-eqb}
 
 -- one command looked at, by whether the word is its word
