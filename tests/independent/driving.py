@@ -8,7 +8,7 @@ from pathlib import Path
 from .bench import expected
 
 ROOT = Path(__file__).resolve().parents[2]
-BENCH = Path(os.environ.get("BENCH", ROOT / "target" / "bin" / "bench"))
+BENCH = Path(os.environ.get("BENCH", ROOT / "crates" / "bench" / "out" / "bench"))
 
 
 def fail(message):
@@ -23,7 +23,7 @@ def shortened(text, most=300):
 def run(script):
     """The bench program's status, standard output and standard error for the lines of a script."""
     if not BENCH.is_file():
-        fail(f"{BENCH} is not there: build it with rt check bench")
+        fail(f"{BENCH} is not there: `./run` builds it")
     text = "".join(line + "\n" for line in script)
     ended = subprocess.run([str(BENCH)], input=text.encode(), capture_output=True, timeout=120)
     return ended.returncode, ended.stdout.decode().splitlines(), ended.stderr.decode()

@@ -42,6 +42,6 @@ worked =
     outside (at 104 210) ∷ outside (at 0 1) ∷
     maps 2 (at 82 434) ∷ maps 0 (at 1 0) ∷ maps 1 (at 1 0) ∷ maps 522 (at 1 0) ∷ []
 
--- AllByRecursion worked values hold.
+-- All worked values hold.
 abbrev pub Worked : Type 0
 Worked = AllByRecursion Holds worked

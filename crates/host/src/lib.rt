@@ -1,5 +1,5 @@
-// What a program in C calls. `rt staticlib host` makes a static library of it, include/dilkortxi.h
-// declares its functions, and docs/HOST.md says how to link and call them.
+// What a program in C calls. `rt lib` makes a static library of it, include/dilkortxi.h declares its
+// functions, and docs/HOST.md says how to link and call them.
 //
 // Each function takes a run of bytes (in C a pointer and a length) and tells whether it is the code of an
 // element of its group: 0, or the number of the fault, 2 for a wrong length and 6 for bytes that are no code.
