@@ -1,5 +1,6 @@
 -- An accepted issue of a request that blind wrote is answered as the steps say, so finish accepts its reply.
 use Rattle.std.proofs.Common.{◌≡◌, ℕ, ◌*◌, ◌≤◌, List, [], map, length, Some, Ok, Option, sym, ap, ◌∙◌, subst}
+use Rattle.std.proofs.lemmas.List.{length-map}
 use Rattle.scalar.specs.Scalars.{scalar_code}
 use Rattle.group.specs.Model.{Model}
 use Rattle.group.specs.Theorems.{row}
@@ -18,7 +19,7 @@ use Rattle.history.specs.Law.{Finishes}
 use Rattle.history.specs.Kept.{SoFar}
 use Rattle.history.proofs.Steps.{same_some}
 use Rattle.history.proofs.Deeds.{law_at, Apt, apt}
-use Rattle.history.proofs.Items.{Replied, issue_ok, rows_out, length-map}
+use Rattle.history.proofs.Items.{Replied, issue_ok, rows_out}
 
 module _ {E S K : Type 0} (m : Model E S K) (places : ℕ) where
   -- a reply to elements of which none is null: their answers and a proof
@@ -39,7 +40,7 @@ module _ {E S K : Type 0} (m : Model E S K) (places : ℕ) where
       let reply : p ≡ reply_bytes m (record { epoch = epoch; count = length (map (answered m k) bs); items = row m (map (answered m k) bs); challenge = scalar_code m.scalars r.c; response = scalar_code m.scalars r.s }) =
       r.reply
       ∙ ap (λ (b : Batch). reply_bytes m (record { epoch = b.epoch; count = b.count; items = r.got; challenge = scalar_code m.scalars r.c; response = scalar_code m.scalars r.s })) same
-      ∙ ap (λ (n : ℕ). reply_bytes m (record { epoch = epoch; count = n; items = r.got; challenge = scalar_code m.scalars r.c; response = scalar_code m.scalars r.s })) (sym (length-map m (answered m k) bs))
+      ∙ ap (λ (n : ℕ). reply_bytes m (record { epoch = epoch; count = n; items = r.got; challenge = scalar_code m.scalars r.c; response = scalar_code m.scalars r.s })) (sym (length-map bs (answered m k)))
       ∙ ap (λ x. reply_bytes m (record { epoch = epoch; count = length (map (answered m k) bs); items = x; challenge = scalar_code m.scalars r.c; response = scalar_code m.scalars r.s })) got in
       (r.u, r.c, r.s, proof, reply)
 

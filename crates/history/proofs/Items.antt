@@ -1,6 +1,6 @@
 -- The items of an answered request: each answer is its element times the key, and no element is the null.
 use Rattle.std.proofs.Common.{◌≡◌, ℕ, zero, suc, ◌+◌, ◌*◌, ◌<◌, cond, not, eqb, ltb, List, [], ◌∷◌, ◌++◌, map, length, get_or, take, drop, Some, Ok, Err, Option, Result, sym, refl, ap, ◌∙◌, subst, append_assoc, append-nil, suc-mul, zero-mul, arith, length-drop}
-use Rattle.std.proofs.lemmas.List.{take-append-drop, drop-drop, get_or-map, take_at, drop_at}
+use Rattle.std.proofs.lemmas.List.{take-append-drop, drop-drop, get_or-map, length-map, take_at, drop_at}
 use Rattle.std.specs.Option.{ok_or}
 use Rattle.std.specs.List.{AllByRecursion}
 use Rattle.faults.specs.declared.WireFault.TheVariants.{ShortScratch, WrongLength, ShortOutlet}
@@ -183,10 +183,6 @@ module _ {E S K : Type 0} (m : Model E S K) where
   unfolding reply_bytes head_bytes
   head_past a = refl
 
-  pub length-map : (f : E → E) (bs : List E) → length (map f bs) ≡ length bs
-  length-map f [] = refl
-  length-map f (b ∷ bs) = ap suc (length-map f bs)
-
   -- an answered item: its answer is the key's, and its element is not the null
   pub answer_at : (key : ℕ → Option K) (q p : List ℕ) (r : Replied key q p) (i : ℕ) (sent got : E) → i < count_in q →
       m.element (code_in m q i) ≡ Some sent → m.element (code_in m p i) ≡ Some got → (key (epoch_in q) ≡ Some r.k) × (got ≡ answered m r.k sent) × Real sent
@@ -198,7 +194,7 @@ module _ {E S K : Type 0} (m : Model E S K) where
       let rows = rows_in r.k r.batch.count 0 r.batch.items [] r.got f.5 r.codes in
       let bs = rows.bs in
       let within : i < length bs = omega (arith, rows.many) in
-      let within' : i < length (map (answered m r.k) bs) = omega (arith, length-map (answered m r.k) bs) in
+      let within' : i < length (map (answered m r.k) bs) = omega (arith, length-map bs (answered m r.k)) in
       let here = stands q bs [] (sym items ∙ rows.sent ∙ sym (append-nil (row m bs))) i sent within in
       let sent_is : get_or bs i sent ≡ sent = same_some (get_or bs i sent) sent (sym here ∙ a) in
       let past : drop 5 p ≡ row m (map (answered m r.k) bs) ++ (scalar_code m.scalars r.c ++ scalar_code m.scalars r.s) =
