@@ -61,6 +61,11 @@ class Bench:
         kept = self.names[name]
         return parts(kept, TOKEN)[int(number) - 1] if number else kept
 
+    def nonce(self, word):
+        nonce = self.data(word)
+        check(len(nonce) == 32, WRONG_LENGTH)
+        return nonce
+
     # Digest and groups.
 
     def do_digest(self, data):
@@ -108,10 +113,10 @@ class Bench:
         return self.book.capacity
 
     def do_mark(self, epoch, nonce):
-        self.book.mark(int(epoch), self.data(nonce))
+        self.book.mark(int(epoch), self.nonce(nonce))
 
     def do_has(self, epoch, nonce):
-        return "yes" if self.book.has(int(epoch), self.data(nonce)) else "no"
+        return "yes" if self.book.has(int(epoch), self.nonce(nonce)) else "no"
 
     def do_drop(self, epoch):
         return self.book.drop(int(epoch))

@@ -4,25 +4,27 @@
 //   standard input --lines--> script::session --reports--> standard output
 //                                 |      |
 //                                 +-- desk: the lone book, from its `book` line to the next
+//                                 +-- counter: the client, with the batch that is pending, and the station
 //
 // At the first line that is no command it says on standard error which line and word are wrong, and ends
-// with status 1. Everything but the input and the output is in `script`, `desk` and `text`.
+// with status 1. A batch that is pending at the end is abandoned there. Everything but the input and the
+// output is in `script`, `desk`, `counter` and `text`.
 #![tactic(auto)]
 
 use chained::ChainedBook;
+use client::Pending;
+use counter::Counter;
 use desk::{Desk, Empty};
 use faults::{Fault, Refusal, WireFault};
 use script::answers::{Answer, Report};
 use script::command::Command;
 use script::errors::LineFault;
+use script::reading::Shelf;
 use script::session::Session;
-use script::tasks::{Shelf, Task};
+use script::tasks::Task;
 use std::io;
 use std::io::{BufRead, BufReader, ErrorKind, Write};
 use tape::TapeBook;
-
-#[cfg(test)]
-mod cases;
 
 // Prints the line of a report.
 fn print(rt: &HostRuntime, report: &Report) -> io::Result<()> {
@@ -32,6 +34,13 @@ fn print(rt: &HostRuntime, report: &Report) -> io::Result<()> {
     rt.stdout().write_all(line.as_slice())
 }
 
+// What the lines so far have kept, chosen and set.
+#[derive(Drop)]
+struct State {
+    session: Session,
+    counter: Counter,
+}
+
 // What a line comes to: it was carried out, or it asks for a book.
 #[derive(Drop)]
 enum Turn {
@@ -39,14 +48,16 @@ enum Turn {
     Book(Shelf, u64),
 }
 
-// Carries out a line; what it asks of a book, the desk answers.
+// Carries out a line; what it asks of a book, the desk answers, and what it asks of the client or of a
+// station, the counter does.
 fn take_turn<D: Desk>(
-    session: &mut Session,
-    line: &[u8],
-    desk: &mut D,
     rt: &HostRuntime,
+    state: &mut State,
+    pending: &mut Option<Pending>,
+    desk: &mut D,
+    line: &[u8],
 ) -> Result<Turn, LineFault> {
-    let Some(order) = session.order(line)? else {
+    let Some(order) = state.session.order(line)? else {
         return Ok(Turn::Carried(None));
     };
     let command = order.command;
@@ -54,10 +65,20 @@ fn take_turn<D: Desk>(
         Task::Book { shelf, length } => Ok(Turn::Book(shelf, length)),
         Task::Call { call } => {
             let outcome = desk.answer(&call, rt.alloc())?;
-            session.settle(line, &outcome)?;
+            state.session.settle(line, &outcome)?;
             Ok(Turn::Carried(Some(Report { command, outcome })))
         }
-        _ => Ok(Turn::Carried(session.carry_out(line)?)),
+        Task::Protocol { action } => {
+            let kind = state.session.kind();
+            let outcome = state.counter.answer(kind, action, pending, rt.alloc())?;
+            state.session.settle(line, &outcome)?;
+            Ok(Turn::Carried(Some(Report { command, outcome })))
+        }
+        Task::Group { .. } => {
+            state.counter.leave();
+            Ok(Turn::Carried(state.session.carry_out(line)?))
+        }
+        _ => Ok(Turn::Carried(state.session.carry_out(line)?)),
     }
 }
 
@@ -71,14 +92,15 @@ fn no_command(rt: &HostRuntime, at: usize, fault: LineFault) -> io::Result<()> {
 // Carries out the lines from a place on, up to the next that asks for a book; answers where that is.
 fn serve<D: Desk + Drop>(
     rt: &HostRuntime,
-    session: &mut Session,
+    state: &mut State,
+    pending: &mut Option<Pending>,
     lines: &[String],
     from: usize,
     desk: D,
 ) -> io::Result<usize> {
     let mut desk = desk;
     for i in from..lines.len() {
-        match take_turn(session, lines[i].as_bytes(), &mut desk, rt) {
+        match take_turn(rt, state, pending, &mut desk, lines[i].as_bytes()) {
             Ok(Turn::Carried(Some(report))) => print(rt, &report)?,
             Ok(Turn::Carried(None)) => {}
             Ok(Turn::Book(_, _)) => return Ok(i),
@@ -106,7 +128,8 @@ fn print_book(rt: &HostRuntime, capacity: Result<u16, WireFault>) -> io::Result<
 // Makes the book that a line asks for, and carries out the lines below it.
 fn open(
     rt: &HostRuntime,
-    session: &mut Session,
+    state: &mut State,
+    pending: &mut Option<Pending>,
     lines: &[String],
     at: usize,
     shelf: Shelf,
@@ -120,8 +143,17 @@ fn open(
             let capacity = tape::capacity_in(memory.len());
             print_book(rt, capacity)?;
             match capacity {
-                Ok(capacity) => serve(rt, session, lines, below, TapeBook::over(memory, capacity)),
-                Err(_) => serve(rt, session, lines, below, Empty),
+                Ok(capacity) => {
+                    serve(
+                        rt,
+                        state,
+                        pending,
+                        lines,
+                        below,
+                        TapeBook::over(memory, capacity),
+                    )
+                }
+                Err(_) => serve(rt, state, pending, lines, below, Empty),
             }
         }
         Shelf::Chained => {
@@ -131,13 +163,14 @@ fn open(
                 Ok(capacity) => {
                     serve(
                         rt,
-                        session,
+                        state,
+                        pending,
                         lines,
                         below,
                         ChainedBook::over(memory, capacity),
                     )
                 }
-                Err(_) => serve(rt, session, lines, below, Empty),
+                Err(_) => serve(rt, state, pending, lines, below, Empty),
             }
         }
     }
@@ -152,14 +185,18 @@ fn read_lines(rt: &HostRuntime, lines: &mut Vec<String>) -> io::Result<()> {
 }
 
 // Carries out the lines, book after book.
-fn carry_out(rt: &HostRuntime, lines: &[String]) -> io::Result<()> {
-    let mut session = Session::new(rt.alloc());
-    let mut next = serve(rt, &mut session, lines, 0, Empty)?;
+fn carry_out(rt: &HostRuntime, pending: &mut Option<Pending>, lines: &[String]) -> io::Result<()> {
+    let mut state = State {
+        session: Session::new(rt.alloc()),
+        counter: Counter::new(),
+    };
+    let mut next = serve(rt, &mut state, pending, lines, 0, Empty)?;
     for i in 0..lines.len() {
         if i == next {
-            if let Ok(Some(order)) = session.order(lines[i].as_bytes()) {
+            if let Ok(Some(order)) = state.session.order(lines[i].as_bytes()) {
                 if let Task::Book { shelf, length } = order.task {
-                    next = open(rt, &mut session, lines, i, shelf, length as usize)?;
+                    let length = length as usize;
+                    next = open(rt, &mut state, pending, lines, i, shelf, length)?;
                 }
             }
         }
@@ -167,10 +204,24 @@ fn carry_out(rt: &HostRuntime, lines: &[String]) -> io::Result<()> {
     Ok(())
 }
 
+// Gives up a batch that is still pending, and says so.
+fn give_up(rt: &HostRuntime, pending: Option<Pending>) -> io::Result<()> {
+    if let Some(batch) = pending {
+        let (epoch, count) = batch.abandon();
+        eprintln!(rt;
+            "at the end: a batch of epoch {epoch} with {count} items is pending, and is abandoned"
+        )?;
+    }
+    Ok(())
+}
+
 fn main(rt: HostRuntime) -> io::Result<()> {
     let mut lines = Vec::new(rt.alloc());
     let read = read_lines(&rt, &mut lines);
-    carry_out(&rt, lines.as_slice())?;
+    let mut pending = None;
+    let carried = carry_out(&rt, &mut pending, lines.as_slice());
+    give_up(&rt, pending)?;
+    carried?;
     if let Err(error) = read {
         let number = lines.len().saturating_add(1);
         eprintln!(rt; "line {number}: {error}")?;

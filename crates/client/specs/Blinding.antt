@@ -1,26 +1,18 @@
 -- What `blind` answers.
-use Rattle.std.specs.Prelude.{◌≡◌, ℕ, zero, suc, ◌+◌, ◌*◌, ◌/◌, ◌%◌, ◌≤◌, not, List, [], ◌∷◌, ◌++◌, length, take, drop, Ok, Err, Result, ◌==◌, nat_lt}
+use Rattle.std.specs.Prelude.{◌≡◌, ℕ, ◌*◌, ◌/◌, ◌%◌, ◌≤◌, not, List, [], ◌∷◌, length, Ok, Err, Result, ◌==◌, nat_lt}
 use Rattle.faults.specs.declared.WireFault.TheVariants.{ShortScratch, WrongLength, WrongCount, ShortOutlet}
 use Rattle.faults.specs.declared.RingFault.TheVariants.{NotOpen}
 use Rattle.faults.specs.declared.BatchFault.{BatchFault}
 use Rattle.faults.specs.declared.BatchFault.TheVariants.{Wire, Ring}
 use Rattle.group.specs.Model.{Model}
-use Rattle.voprf.specs.Blinding.{blinded}
+use Rattle.hashing.specs.Hashing.{key_id}
 use Rattle.messages.specs.Answers.{ruled}
 use Rattle.messages.specs.Messages.{request_bytes, request_length}
 use Rattle.token.specs.Tokens.{then, of_group, element_of}
-use Rattle.client.specs.declared.Pending.{Pending}
-use Rattle.client.specs.Batches.{of_item, input_of, opened}
+use Rattle.client.specs.declared.pending.Pending.{Pending}
+use Rattle.client.specs.Batches.{sent_code, walked}
 
 module _ {E S K : Type 0} (m : Model E S K) where
-  -- the codes of the blinded items from place i on, n of them, after those in front
-  unfoldable pub blind_codes : ℕ → E → ℕ → ℕ → List ℕ → List ℕ → List ℕ → Result (List ℕ) BatchFault
-  blind_codes epoch pk i zero seeds blinds front = Ok front
-  blind_codes epoch pk i (suc n) seeds blinds front =
-      then (of_item i (opened m (input_of m epoch pk (take 64 seeds)) (take m.scalars.width blinds))) (λ r.
-      blind_codes epoch pk (i + 1) n (drop 64 seeds) (drop m.scalars.width blinds)
-      (front ++ m.code (blinded m r (input_of m epoch pk (take 64 seeds)))))
-
   -- the checks before any item, in their order: the public key and the number of items, or the first fault
   unfoldable pub vetted : ℕ → ℕ → List ℕ → List ℕ → List ℕ → ℕ → Result (E × ℕ) BatchFault
   vetted scratch epoch code seeds blinds outlet =
@@ -51,10 +43,15 @@ module _ {E S K : Type 0} (m : Model E S K) where
   unfoldable pub blind_answer : ℕ → ℕ → List ℕ → List ℕ → List ℕ → ℕ → Result (List ℕ) BatchFault
   blind_answer scratch epoch code seeds blinds outlet =
       then (vetted scratch epoch code seeds blinds outlet) (λ known.
-      then (blind_codes epoch known.0 0 known.1 seeds blinds []) (λ codes.
+      then (walked m (sent_code m) epoch (key_id m known.0) 0 known.1 seeds blinds [] []) (λ codes.
       Ok (request_bytes m (record { epoch = epoch; count = known.1; items = codes }))))
 
 -- what the call gives: a pending batch of the epoch and of n items where the request is written
-abbrev pub begun : ℕ → ℕ → Result (List ℕ) BatchFault → Result Pending BatchFault
-begun epoch n (Ok bytes) = Ok (record { epoch = epoch; count = n })
+abbrev pub begun : ℕ → ℕ → Result (List ℕ) BatchFault → Result (ℕ × ℕ) BatchFault
+begun epoch n (Ok bytes) = Ok (epoch, n)
 begun epoch n (Err f) = Err f
+
+-- what a pending batch keeps, its epoch and how many items it has
+abbrev pub batch_seen : Result Pending BatchFault → Result (ℕ × ℕ) BatchFault
+batch_seen (Ok p) = Ok (p.epoch, p.count)
+batch_seen (Err f) = Err f

@@ -1,2 +1,4 @@
 pub mod Batches
 pub mod Blinding
+pub mod Finishing
+pub mod Honest

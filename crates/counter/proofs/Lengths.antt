@@ -14,12 +14,12 @@ use Rattle.messages.specs.Answers.{ruled}
 use Rattle.messages.specs.Messages.{Answers, request_length, token_bytes, token_input_bytes}
 use Rattle.token.specs.Tokens.{then, of_group, element_of, key_of}
 use Rattle.voprf.specs.Blinding.{unblinded}
-use Rattle.client_next.proofs.Following.{then_ok, item_passed}
-use Rattle.client_next.proofs.Replies.{reply_known}
-use Rattle.client_next.specs.Batches.{of_item, input_under, sent, sent_code, walked}
-use Rattle.client_next.specs.Blinding.{vetted, blind_answer}
-use Rattle.client_next.specs.Finishing.{finalized, token_made, reply_parts, finish_vetted, confirmed, finish_answer}
-use Rattle.client_next.proofs.Hashes.{key_id_long, authenticator_long}
+use Rattle.client.proofs.Following.{then_ok, item_passed}
+use Rattle.client.proofs.Replies.{reply_known}
+use Rattle.client.specs.Batches.{of_item, input_under, sent, sent_code, walked}
+use Rattle.client.specs.Blinding.{vetted, blind_answer}
+use Rattle.client.specs.Finishing.{finalized, token_made, reply_parts, finish_vetted, confirmed, finish_answer}
+use Rattle.client.proofs.Hashes.{key_id_long, authenticator_long}
 
 module _ {E S K : Type 0} (m : Model E S K) where
   -- a step that makes w bytes of each item makes n * w of n

@@ -10,9 +10,9 @@ use Rattle.faults.specs.declared.WireFault.{WireFault}
 use Rattle.history.specs.Events.{events, told}
 use Rattle.history.specs.declared.calls.Call.{Call}
 use Rattle.history.specs.declared.calls.Outcome.{Outcome}
-use Rattle.script_next.specs.declared.answers.Answer.{Answer}
-use Rattle.script_next.specs.declared.errors.LineFault.{LineFault}
-use Rattle.script_next.specs.declared.reading.Shelf.{Shelf}
+use Rattle.script.specs.declared.answers.Answer.{Answer}
+use Rattle.script.specs.declared.errors.LineFault.{LineFault}
+use Rattle.script.specs.declared.reading.Shelf.{Shelf}
 use Rattle.counter.specs.Ledgers.{Lent, seen, places_in, LawfulIn, Replayed, Says, Serves}
 
 -- the last of the outcomes, where there is one

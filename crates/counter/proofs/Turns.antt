@@ -2,10 +2,10 @@
 use Rattle.std.proofs.Common.{◌≡◌, ℕ, ◌*◌, ◌/◌, true, false, List, length, take, drop, is_some, Some, None, Ok, Err, Option, Result, sym, refl, ap, ◌∙◌}
 use lib.Seq.{take-append_seam}
 use Rattle.std.proofs.lemmas.Bool.{both_ways}
-use Rattle.client_next.specs.Batches.{outlet_after}
-use Rattle.client_next.specs.Blinding.{begun}
-use Rattle.client_next.specs.Finishing.{finished}
-use Rattle.client_next.specs.declared.pending.Pending.{Pending}
+use Rattle.client.specs.Batches.{outlet_after}
+use Rattle.client.specs.Blinding.{begun}
+use Rattle.client.specs.Finishing.{finished}
+use Rattle.client.specs.declared.pending.Pending.{Pending}
 use Rattle.circ523.specs.Kind.{points}
 use Rattle.res2039.specs.Kind.{residues}
 use Rattle.commands.specs.declared.Kind.{Kind}
@@ -13,10 +13,10 @@ use Rattle.commands.specs.declared.Kind.TheVariants.{Res2039, Circ523}
 use Rattle.faults.specs.declared.BatchFault.{BatchFault}
 use Rattle.messages.proofs.Ruled.{same_answer}
 use Rattle.messages.specs.Answers.{over}
-use Rattle.script_next.specs.Reports.{bytes}
+use Rattle.script.specs.Reports.{bytes}
 use Rattle.counter.specs.Orders.{Waiting, waiting, blind_in, finish_in, Begins, begun_turn, blind_turn, ended_turn, finish_turn}
 use Rattle.counter.proofs.Lengths.{tokens_long}
-use Rattle.client_next.proofs.Following.{ok_err}
+use Rattle.client.proofs.Following.{ok_err}
 
 -- a batch that was begun
 pub begins : (a : Result (List ℕ) BatchFault) (epoch n : ℕ) (p : Pending) (long : ℕ) → Ok (p.epoch, p.count) ≡ begun epoch n a →

@@ -4,11 +4,11 @@ use Rattle.commands.specs.declared.Kind.{Kind}
 use Rattle.faults.specs.Numbers.{wire_tells}
 use Rattle.faults.specs.declared.Refusal.{Refusal}
 use Rattle.faults.specs.declared.WireFault.{WireFault}
-use Rattle.script_next.specs.Protocol.{Acted, Served, scratch, outlet, blind, finish, abandon, station, serve}
-use Rattle.script_next.specs.Reports.{Said, done, outcome_of}
-use Rattle.script_next.specs.declared.answers.Answer.{Answer}
-use Rattle.script_next.specs.declared.errors.LineFault.{LineFault}
-use Rattle.script_next.specs.declared.errors.LineFault.TheVariants.{NoStation}
+use Rattle.script.specs.Protocol.{Acted, Served, scratch, outlet, blind, finish, abandon, station, serve}
+use Rattle.script.specs.Reports.{Said, done, outcome_of}
+use Rattle.script.specs.declared.answers.Answer.{Answer}
+use Rattle.script.specs.declared.errors.LineFault.{LineFault}
+use Rattle.script.specs.declared.errors.LineFault.TheVariants.{NoStation}
 use Rattle.counter.specs.Ledgers.{Standing, lent, grown, places_in, ServesAt, KeepsCall}
 use Rattle.counter.specs.Orders.{Waiting, blind_turn, finish_turn, abandon_turn, Takes}
 use Rattle.counter.specs.declared.orders.Buffers.{Buffers}

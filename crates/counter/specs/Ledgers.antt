@@ -15,13 +15,13 @@ use Rattle.history.specs.declared.calls.Call.{Call}
 use Rattle.history.specs.declared.calls.Call.TheVariants.{Count, Open, Close, Issue, Redeem}
 use Rattle.history.specs.declared.calls.Outcome.{Outcome}
 use Rattle.res2039.specs.Kind.{residues}
-use Rattle.script_next.specs.Protocol.{Served, open_epoch, close_epoch, issue, redeem, count, served_of}
-use Rattle.script_next.specs.Reports.{Said, done, number, bytes, outcome_of}
-use Rattle.script_next.specs.declared.answers.Answer.{Answer}
-use Rattle.script_next.specs.declared.errors.LineFault.{LineFault}
-use Rattle.script_next.specs.declared.errors.LineFault.TheVariants.{Memory}
-use Rattle.script_next.specs.declared.reading.Shelf.{Shelf}
-use Rattle.script_next.specs.declared.reading.Shelf.TheVariants.{Chained, Tape}
+use Rattle.script.specs.Protocol.{Served, open_epoch, close_epoch, issue, redeem, count, served_of}
+use Rattle.script.specs.Reports.{Said, done, number, bytes, outcome_of}
+use Rattle.script.specs.declared.answers.Answer.{Answer}
+use Rattle.script.specs.declared.errors.LineFault.{LineFault}
+use Rattle.script.specs.declared.errors.LineFault.TheVariants.{Memory}
+use Rattle.script.specs.declared.reading.Shelf.{Shelf}
+use Rattle.script.specs.declared.reading.Shelf.TheVariants.{Chained, Tape}
 use Rattle.tape.specs.Layout as tape
 use Rattle.counter.specs.declared.ledger.Entry.{Entry}
 use Rattle.counter.specs.declared.ledger.Ledger.{Ledger}

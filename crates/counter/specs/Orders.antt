@@ -1,20 +1,20 @@
 -- What a line of the client comes to: what is said, and the batch that is pending after it.
 use Rattle.std.specs.Prelude.{◌≡◌, ℕ, ◌/◌, ◌⊎◌, List, length, Some, None, Ok, Err, Option, Result}
 use Rattle.circ523.specs.Kind.{points}
-use Rattle.client_next.specs.Blinding.{blind_answer}
-use Rattle.client_next.specs.Finishing.{finish_answer}
-use Rattle.client_next.specs.declared.pending.Pending.{Pending}
+use Rattle.client.specs.Blinding.{blind_answer}
+use Rattle.client.specs.Finishing.{finish_answer}
+use Rattle.client.specs.declared.pending.Pending.{Pending}
 use Rattle.commands.specs.declared.Kind.{Kind}
 use Rattle.commands.specs.declared.Kind.TheVariants.{Res2039, Circ523}
 use Rattle.faults.specs.Numbers.{batch_tells}
 use Rattle.faults.specs.declared.BatchFault.{BatchFault}
 use Rattle.faults.specs.declared.Refusal.{Refusal}
 use Rattle.res2039.specs.Kind.{residues}
-use Rattle.script_next.specs.Reports.{bytes, pair, outcome_of}
-use Rattle.script_next.specs.Sessions.{Outcome}
-use Rattle.script_next.specs.declared.answers.Answer.{Answer}
-use Rattle.script_next.specs.declared.errors.LineFault.{LineFault}
-use Rattle.script_next.specs.declared.errors.LineFault.TheVariants.{NoBatch, PendingBatch, Memory}
+use Rattle.script.specs.Reports.{bytes, pair, outcome_of}
+use Rattle.script.specs.Sessions.{Outcome}
+use Rattle.script.specs.declared.answers.Answer.{Answer}
+use Rattle.script.specs.declared.errors.LineFault.{LineFault}
+use Rattle.script.specs.declared.errors.LineFault.TheVariants.{NoBatch, PendingBatch, Memory}
 
 -- the epoch of the pending batch and how many items it has, where one is pending
 abbrev pub Waiting : Type 0

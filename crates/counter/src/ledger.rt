@@ -5,7 +5,7 @@
 ghost use Rattle.std.specs.Prelude.{◌≡◌, [], map, reverse, length, IfOk};
 ghost use Rattle.book.specs.Making.{Worked};
 ghost use Rattle.history.specs.Events.{events, told};
-ghost use Rattle.script_next.specs.Protocol.{served_of};
+ghost use Rattle.script.specs.Protocol.{served_of};
 ghost use Rattle.counter.specs.Ledgers.{lent, lent_of, seen, places_in, standing, grown, LawfulIn, Replayed, Says, ServesAt, KeepsCall};
 
 use crate::orders::Buffers;
@@ -15,10 +15,10 @@ use commands::Kind;
 use faults::{Fault, Refusal, WireFault};
 use history::{Call, Outcome};
 use res2039::Residue;
-use script_next::answers::Answer;
-use script_next::errors::LineFault;
-use script_next::protocol::Service;
-use script_next::reading::Shelf;
+use script::answers::Answer;
+use script::errors::LineFault;
+use script::protocol::Service;
+use script::reading::Shelf;
 use std::alloc::{AllocError, Global};
 
 // A call that a line made, with the lengths of the buffers that it was lent.

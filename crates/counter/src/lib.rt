@@ -7,22 +7,22 @@
 #![tactic(auto)]
 
 ghost use Rattle.std.specs.Prelude.{◌≡◌, None};
-ghost use Rattle.script_next.specs.Protocol.{acted_of};
-ghost use Rattle.script_next.specs.Reports.{outcome_of};
+ghost use Rattle.script.specs.Protocol.{acted_of};
+ghost use Rattle.script.specs.Reports.{outcome_of};
 ghost use Rattle.counter.specs.Counters.{lengths_after, Answered, Founded, Stations};
 ghost use Rattle.counter.specs.Ledgers.{places_in, stands};
 ghost use Rattle.counter.specs.Orders.{waiting};
 
-use client_next::Pending;
+use client::Pending;
 use commands::Kind;
 use faults::{Fault, Refusal};
 use ledger::Ledger;
 use orders::Buffers;
 use scratch::ENOUGH;
-use script_next::answers::Answer;
-use script_next::errors::LineFault;
-use script_next::protocol::Action;
-use script_next::reading::{ROOM, Shelf};
+use script::answers::Answer;
+use script::errors::LineFault;
+use script::protocol::Action;
+use script::reading::{ROOM, Shelf};
 use std::alloc::Global;
 
 pub mod ledger;

@@ -1,20 +1,20 @@
 // A script's calls of the client. The batch that is pending is lent: it can be neither copied nor let go, so
 // whoever owns it abandons it in the end.
 ghost use Rattle.std.specs.Prelude.{◌≡◌, ◌/◌, length, Some};
-ghost use Rattle.client_next.specs.Batches.{outlet_after};
-ghost use Rattle.client_next.specs.Blinding.{blind_answer};
-ghost use Rattle.client_next.specs.Finishing.{finished};
+ghost use Rattle.client.specs.Batches.{outlet_after};
+ghost use Rattle.client.specs.Blinding.{blind_answer};
+ghost use Rattle.client.specs.Finishing.{finished};
 ghost use Rattle.counter.specs.Orders.{blind_in, finish_in, blind_turn, finish_turn, abandon_turn, waiting, Begins, Takes};
 
 use circ523::Point;
-use client_next::{Pending, Unfinished};
+use client::{Pending, Unfinished};
 use commands::Kind;
 use faults::{BatchFault, Fault, Refusal};
 use group::Group;
 use messages::request_len;
 use res2039::Residue;
-use script_next::answers::Answer;
-use script_next::errors::LineFault;
+use script::answers::Answer;
+use script::errors::LineFault;
 use std::alloc::Global;
 
 // The length of a token.
@@ -48,7 +48,7 @@ fn begin<G: Group>(
     ensures answer { Begins (blind_answer G.model (length scratch.old) epoch pk.now seeds.now blinds.now (length outlet.old)) epoch (length seeds.now / 64) result }
     ensures outlet { outlet.new ≡ outlet_after (blind_answer G.model (length scratch.old) epoch pk.now seeds.now blinds.now (length outlet.old)) outlet.old }
 {
-    match client_next::blind::<G>(scratch, epoch, pk, seeds, blinds, outlet) {
+    match client::blind::<G>(scratch, epoch, pk, seeds, blinds, outlet) {
         Ok(batch) => Ok((batch, request_len::<G>((seeds.len() / 64) as u8))),
         Err(fault) => Err(fault),
     }
@@ -126,10 +126,10 @@ fn finish_in(
 {
     match kind {
         Kind::Res2039 => {
-            client_next::finish::<Residue>(scratch, pending, pk, seeds, blinds, reply, outlet)
+            client::finish::<Residue>(scratch, pending, pk, seeds, blinds, reply, outlet)
         }
         Kind::Circ523 => {
-            client_next::finish::<Point>(scratch, pending, pk, seeds, blinds, reply, outlet)
+            client::finish::<Point>(scratch, pending, pk, seeds, blinds, reply, outlet)
         }
     }
 }

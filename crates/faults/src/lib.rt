@@ -15,7 +15,7 @@
 
 ghost use Rattle.std.specs.Prelude.{◌≡◌};
 ghost use Rattle.faults.specs.declared.Refusal.{Refusal};
-ghost use Rattle.faults.specs.declared.BatchFault.TheVariants.{Wire as BatchWire, Ring as BatchRing, Group as BatchGroup};
+ghost use Rattle.faults.specs.declared.BatchFault.TheVariants.{Wire as BatchWire, Ring as BatchRing, Group as BatchGroup, Item as BatchItem};
 ghost use Rattle.faults.specs.declared.StationFault.TheVariants.{Wire as StationWire, Ring as StationRing, Group as StationGroup, Batch as StationBatch, Token as StationToken, Book as StationBook};
 ghost use Rattle.faults.specs.Numbers.{wire_tells, group_tells, ring_tells, batch_tells, token_tells, book_tells, station_tells, layer_name};
 
@@ -121,6 +121,15 @@ impl Fault for GroupFault {
             layer: Layer::Group,
             item: 0,
         }
+    }
+}
+
+impl GroupFault {
+    // The same fault of an item of a batch; items count from 1.
+    pub fn of_item(self, item: u8) -> BatchFault
+        ensures { result ≡ BatchItem item self }
+    {
+        BatchFault::Item { item, fault: self }
     }
 }
 

@@ -9,9 +9,9 @@ use Rattle.voprf.specs.Proving.{proved}
 use Rattle.messages.specs.Messages.{Batch, read_request, batch_of, written_reply, reply_bytes}
 use Rattle.messages.proofs.Ruled.{same_answer}
 use Rattle.messages.proofs.Batches.{written_request_read}
-use Rattle.client_next.specs.Finishing.{finish_answer}
-use Rattle.client_next.specs.Honest.{GoodTokens}
-use Rattle.client_next.proofs.Accepting.{honest}
+use Rattle.client.specs.Finishing.{finish_answer}
+use Rattle.client.specs.Honest.{GoodTokens}
+use Rattle.client.proofs.Accepting.{honest}
 use Rattle.station.specs.Issuing.{answer_codes}
 use Rattle.history.specs.Events.{Event}
 use Rattle.history.specs.History.{open_key}

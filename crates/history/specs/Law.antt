@@ -12,9 +12,9 @@ use Rattle.voprf.specs.Blinding.{public_key, blinded, unblinded}
 use Rattle.messages.specs.Messages.{epoch_in, count_in, code_in}
 use Rattle.token.specs.Tokens.{Good}
 use Rattle.book.specs.Meaning.{Pair, Exactly}
-use Rattle.client_next.specs.Blinding.{blind_answer}
-use Rattle.client_next.specs.Finishing.{finish_answer}
-use Rattle.client_next.specs.Honest.{GoodTokens}
+use Rattle.client.specs.Blinding.{blind_answer}
+use Rattle.client.specs.Finishing.{finish_answer}
+use Rattle.client.specs.Honest.{GoodTokens}
 use Rattle.station.specs.Answers.{opening, published}
 use Rattle.station.specs.Issuing.{issue_answer}
 use Rattle.station.specs.Redeeming.{redeemable}

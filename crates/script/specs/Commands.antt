@@ -2,11 +2,15 @@
 use Rattle.std.specs.Prelude.{ℕ, cond, List, [], ◌∷◌, Some, None, codes, Option}
 use Rattle.std.specs.Str.{bytes_eq}
 use Rattle.script.specs.declared.command.Command.{Command}
-use Rattle.script.specs.declared.command.Command.TheVariants.{Digest, Group, Decode, Map, Base, Input, Direct, Book, Mark, Has, Drop, Size, Clear, Image}
+use Rattle.script.specs.declared.command.Command.TheVariants.{Digest, Group, Decode, Map, Base, Input, Direct, Book, Mark, Has, Drop, Size, Clear, Image, Protocol}
+use Rattle.script.specs.declared.protocol.Word.TheVariants as word
+use Rattle.script.specs.Protocol.{protocol_word}
 
 -- all the commands
 abbrev pub commands : List Command
-commands = Digest ∷ Group ∷ Decode ∷ Map ∷ Base ∷ Input ∷ Direct ∷ Book ∷ Mark ∷ Has ∷ Drop ∷ Size ∷ Clear ∷ Image ∷ []
+commands =
+    Digest ∷ Group ∷ Decode ∷ Map ∷ Base ∷ Input ∷ Direct ∷ Book ∷ Mark ∷ Has ∷ Drop ∷ Size ∷ Clear ∷ Image ∷
+    Protocol word.Scratch ∷ Protocol word.Outlet ∷ Protocol word.Blind ∷ Protocol word.Finish ∷ Protocol word.Abandon ∷ Protocol word.Station ∷ Protocol word.Open ∷ Protocol word.Close ∷ Protocol word.Issue ∷ Protocol word.Redeem ∷ Protocol word.Count ∷ []
 
 abbrev pub word_of : Command → List ℕ
 word_of Digest = codes "digest"
@@ -23,6 +27,7 @@ word_of Drop = codes "drop"
 word_of Size = codes "size"
 word_of Clear = codes "clear"
 word_of Image = codes "image"
+word_of (Protocol w) = protocol_word w
 
 -- the first of some commands that a word calls
 unfoldable pub called : List Command → List ℕ → Option Command

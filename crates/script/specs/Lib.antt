@@ -1,6 +1,8 @@
 pub mod Arguments
 pub mod Commands
 pub mod Kept
+pub mod Protocol
+pub mod Reading
 pub mod Reports
 pub mod Sessions
 pub mod Statements

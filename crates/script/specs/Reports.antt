@@ -8,7 +8,7 @@ use Rattle.text.specs.Hexadecimal as hex
 use Rattle.script.specs.Arguments.{Table, argument}
 use Rattle.script.specs.Commands.{word_of}
 use Rattle.script.specs.declared.answers.Answer.{Answer}
-use Rattle.script.specs.declared.answers.Answer.TheVariants.{Done, Number, Flag, Bytes, Chose}
+use Rattle.script.specs.declared.answers.Answer.TheVariants.{Done, Number, Pair, Flag, Bytes, Chose}
 use Rattle.script.specs.declared.answers.Report.{Report}
 
 -- texts one after another
@@ -28,6 +28,7 @@ yes_no false = codes "no"
 pub data Said : Type 0 where
   done : Said
   number : ℕ → Said
+  pair : ℕ → ℕ → Said
   flag : Bool → Said
   bytes : List ℕ → Said
   chose : Kind → Said
@@ -35,6 +36,7 @@ pub data Said : Type 0 where
 abbrev pub said : Answer → Said
 said Done = done
 said (Number n) = number n
+said (Pair m n) = pair m n
 said (Flag b) = flag b
 said (Bytes bs) = bytes (vec_items bs)
 said (Chose k) = chose k
@@ -48,6 +50,7 @@ abbrev pub told : Result Said Refusal → List (List ℕ)
 told (Ok done) = codes ": ok" ∷ []
 told (Ok (chose k)) = codes ": ok" ∷ []
 told (Ok (number n)) = codes ": ok " ∷ decimal n ∷ []
+told (Ok (pair m n)) = codes ": ok " ∷ decimal m ∷ codes " " ∷ decimal n ∷ []
 told (Ok (flag b)) = codes ": ok " ∷ yes_no b ∷ []
 told (Ok (bytes bs)) = codes ": ok " ∷ in_script bs ∷ []
 told (Err f) = codes ": fault " ∷ decimal f.number ∷ codes " " ∷ layer_name f.layer ∷ codes " item " ∷ decimal f.item ∷ []

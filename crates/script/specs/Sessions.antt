@@ -9,15 +9,16 @@ use Rattle.faults.specs.declared.Refusal.{Refusal}
 use Rattle.faults.specs.declared.WireFault.{WireFault}
 use Rattle.std.specs.Str.{bytes_eq}
 use Rattle.script.specs.Arguments.{Table}
-use Rattle.script.specs.Reports.{Said, bytes, done, number, flag, chose, outcome_of}
+use Rattle.script.specs.Reading.{then}
+use Rattle.script.specs.Reports.{Said, bytes, done, number, pair, flag, chose, outcome_of}
 use Rattle.script.specs.Statements.{Parts, command_at, statement}
-use Rattle.script.specs.Tasks.{Asked, digest, group, decode, map, base, input, direct, book, call, then, asked, asked_of}
+use Rattle.script.specs.Tasks.{Asked, digest, group, decode, map, base, input, direct, book, call, protocol, asked, asked_of}
 use Rattle.script.specs.declared.answers.Answer.{Answer}
 use Rattle.script.specs.declared.answers.Report.{Report}
 use Rattle.script.specs.declared.command.Command.{Command}
 use Rattle.script.specs.declared.errors.LineFault.{LineFault}
 use Rattle.script.specs.declared.session.Order.{Order}
-use Rattle.script.specs.declared.errors.LineFault.TheVariants.{NoBook, Memory}
+use Rattle.script.specs.declared.errors.LineFault.TheVariants.{NoBook, NoStation, Memory}
 
 -- what a command says, or what is wrong with its line
 abbrev pub Outcome : Type 0
@@ -38,7 +39,7 @@ abbrev pub silent : Result (Unit {0}) BatchFault → Result Said Refusal
 silent (Ok u) = Ok done
 silent (Err f) = Err (batch_tells f)
 
--- what each task says, in the group that is chosen; what is asked of a book, a session has none to ask
+-- what each task says, in the group that is chosen; what is asked of a book or of a station, a session has none to ask
 abbrev pub performed : Kind → Asked → Outcome
 performed k (digest bs) = Ok (wired (digested bs))
 performed k (group g) = Ok (Ok (chose g))
@@ -49,6 +50,7 @@ performed k (input e nonce context pk) = Ok (batched (input_in k e nonce context
 performed k (direct key i) = Ok (batched (direct_in k key i))
 performed k (book s n) = Err NoBook
 performed k (call c) = Err NoBook
+performed k (protocol a) = Err NoStation
 
 -- what each command says: its words are read, and what they ask for is done
 abbrev pub says : Kind → Table → Command → ℕ → List (List ℕ) → Outcome
@@ -79,6 +81,7 @@ kept None o table other = table other
 kept (Some n) (Err f) table other = table other
 kept (Some n) (Ok done) table other = table other
 kept (Some n) (Ok (number k)) table other = table other
+kept (Some n) (Ok (pair i k)) table other = table other
 kept (Some n) (Ok (flag b)) table other = table other
 kept (Some n) (Ok (chose k)) table other = table other
 kept (Some n) (Ok (bytes bs)) table other = cond (bytes_eq n other) (Some bs) (table other)
@@ -88,6 +91,7 @@ abbrev pub chosen : Result Said Refusal → Kind → Kind
 chosen (Err f) k = k
 chosen (Ok done) k = k
 chosen (Ok (number n)) k = k
+chosen (Ok (pair i n)) k = k
 chosen (Ok (flag b)) k = k
 chosen (Ok (bytes bs)) k = k
 chosen (Ok (chose g)) k = g
@@ -101,6 +105,12 @@ Answers o (Err f) = (f ≡ Memory) ⊎ (o ≡ Err f)
 abbrev pub Stores : Option (List ℕ) → Result Said Refusal → Table → Table → Result (Unit {0}) LineFault → Type 0
 Stores name o before after (Ok u) = (n : List ℕ) → after n ≡ kept name o before n
 Stores name o before after (Err f) = (f ≡ Memory) × ((n : List ℕ) → after n ≡ before n)
+
+-- what a line's command said, by what the line says: it is kept under the line's name, where it has one
+abbrev pub Settled : Result (Option Parts) LineFault → Result Said Refusal → Table → Table → Result (Unit {0}) LineFault → Type 0
+Settled (Err f) o before after r = (r ≡ Err f) × ((n : List ℕ) → after n ≡ before n)
+Settled (Ok None) o before after r = (r ≡ Ok tt) × ((n : List ℕ) → after n ≡ before n)
+Settled (Ok (Some p)) o before after r = Stores p.name o before after r
 
 -- the report of a step
 abbrev pub Tells : Step → Report → Type 0

@@ -15,6 +15,8 @@ pub enum Answer {
     // nothing but that it was done
     Done,
     Number(u64),
+    // two numbers
+    Pair(u64, u64),
     // `yes` or `no`
     Flag(bool),
     Bytes(Vec<u8>),
@@ -40,6 +42,16 @@ impl Report {
             Ok(Answer::Chose(_)) => pieces::write(&[word, Piece::Text(": ok")], line),
             Ok(Answer::Number(number)) => {
                 pieces::write(&[word, Piece::Text(": ok "), Piece::Number(*number)], line)
+            }
+            Ok(Answer::Pair(first, second)) => {
+                let parts = [
+                    word,
+                    Piece::Text(": ok "),
+                    Piece::Number(*first),
+                    Piece::Text(" "),
+                    Piece::Number(*second),
+                ];
+                pieces::write(&parts, line)
             }
             Ok(Answer::Flag(yes)) => {
                 let flag = if *yes { "yes" } else { "no" };

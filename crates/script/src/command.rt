@@ -2,6 +2,8 @@
 ghost use Rattle.std.specs.Prelude.{◌≡◌};
 ghost use Rattle.script.specs.Commands.{word_of, command_of};
 
+use crate::protocol::Word;
+
 #[derive(Clone, Copy, PartialEq, Eq, Debug)]
 pub enum Command {
     // `digest BYTES` answers the 32 bytes of their digest
@@ -32,10 +34,12 @@ pub enum Command {
     Clear,
     // `image` answers the bytes that it lies in
     Image,
+    // a word of the client or of a station
+    Protocol(Word),
 }
 
 // All the commands.
-const COMMANDS: [Command; 14] = [
+const COMMANDS: [Command; 25] = [
     Command::Digest,
     Command::Group,
     Command::Decode,
@@ -50,6 +54,17 @@ const COMMANDS: [Command; 14] = [
     Command::Size,
     Command::Clear,
     Command::Image,
+    Command::Protocol(Word::Scratch),
+    Command::Protocol(Word::Outlet),
+    Command::Protocol(Word::Blind),
+    Command::Protocol(Word::Finish),
+    Command::Protocol(Word::Abandon),
+    Command::Protocol(Word::Station),
+    Command::Protocol(Word::Open),
+    Command::Protocol(Word::Close),
+    Command::Protocol(Word::Issue),
+    Command::Protocol(Word::Redeem),
+    Command::Protocol(Word::Count),
 ];
 
 impl Command {
@@ -84,6 +99,7 @@ impl Command {
             Command::Size => "size",
             Command::Clear => "clear",
             Command::Image => "image",
+            Command::Protocol(word) => word.text(),
         }
     }
 }

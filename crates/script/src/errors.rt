@@ -30,6 +30,12 @@ pub enum LineFault {
     UnknownBook { word: usize },
     // a call on a book where there is none
     NoBook,
+    // a batch is to be ended where none is pending
+    NoBatch,
+    // a batch is to be begun where one is pending
+    PendingBatch,
+    // a call on a station where there is none
+    NoStation,
     // no memory is left for what the line says
     Memory,
 }
@@ -76,6 +82,9 @@ impl fmt::Display for LineFault {
             LineFault::UnknownGroup { word } => write!(f, "word {word} is no group"),
             LineFault::UnknownBook { word } => write!(f, "word {word} is no kind of book"),
             LineFault::NoBook => write!(f, "there is no book"),
+            LineFault::NoBatch => write!(f, "no batch is pending"),
+            LineFault::PendingBatch => write!(f, "a batch is pending: finish or abandon it first"),
+            LineFault::NoStation => write!(f, "there is no station"),
             LineFault::Memory => write!(f, "no memory is left"),
         }
     }

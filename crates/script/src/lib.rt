@@ -13,6 +13,8 @@ pub mod arguments;
 pub mod command;
 pub mod errors;
 pub mod names;
+pub mod protocol;
+pub mod reading;
 pub mod session;
 pub mod statements;
 pub mod tasks;

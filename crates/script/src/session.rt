@@ -5,7 +5,8 @@ ghost use Rattle.commands.specs.declared.Kind.TheVariants.{Res2039};
 ghost use Rattle.text.specs.Lines.{line_words};
 ghost use Rattle.script.specs.Kept.{holds};
 ghost use Rattle.script.specs.Reports.{outcome_of, bytes};
-ghost use Rattle.script.specs.Sessions.{performed, batched, chosen, Answers, Stores, Carries, Orders};
+ghost use Rattle.script.specs.Sessions.{performed, batched, chosen, Answers, Stores, Settled, Carries, Orders};
+ghost use Rattle.script.specs.Statements.{statement};
 ghost use Rattle.script.specs.Tasks.{asked_of};
 
 use crate::answers::{Answer, Report};
@@ -47,6 +48,13 @@ impl Session {
         }
     }
 
+    // The group that was chosen last.
+    pub fn kind(&self) -> Kind
+        ensures { result ≡ self.now.kind }
+    {
+        self.kind
+    }
+
     // Carries out a line, and answers its report; none, where the line has no words.
     pub fn carry_out(&mut self, line: &[u8]) -> Result<Option<Report>, LineFault>
         ensures { Carries (line_words line.now) (holds self.old.names) (holds self.new.names) self.old.kind self.new.kind result }
@@ -80,20 +88,22 @@ impl Session {
         }))
     }
 
-    // Keeps what a book answered to a line, where the line has a name for it.
+    // Keeps what a book, the client or a station answered to a line, where the line has a name for it.
     pub fn settle(
         &mut self,
         line: &[u8],
         outcome: &Result<Answer, Refusal>,
     ) -> Result<(), LineFault>
         ensures group { self.new.kind ≡ self.old.kind }
+        ensures names { Settled (statement (line_words line.now)) (outcome_of outcome.now) (holds self.old.names) (holds self.new.names) result }
     {
-        if let Some(statement) = statements::parse(line)? {
-            if let Some(name) = statement.name {
-                self.keep(name, outcome)?;
-            }
+        let Some(said) = statements::parse(line)? else {
+            return Ok(());
+        };
+        match said.name {
+            Some(name) => self.keep(name, outcome),
+            None => Ok(()),
         }
-        Ok(())
     }
 
     // What a task answers, or how it is refused.
@@ -128,6 +138,7 @@ impl Session {
             },
             Task::Book { .. } => Err(LineFault::NoBook),
             Task::Call { .. } => Err(LineFault::NoBook),
+            Task::Protocol { .. } => Err(LineFault::NoStation),
         }
     }
 
@@ -170,6 +181,7 @@ fn next_kind(kind: Kind, outcome: &Result<Answer, Refusal>) -> Kind
         Ok(Answer::Chose(kind)) => *kind,
         Ok(Answer::Done) => kind,
         Ok(Answer::Number(_)) => kind,
+        Ok(Answer::Pair(_, _)) => kind,
         Ok(Answer::Flag(_)) => kind,
         Ok(Answer::Bytes(_)) => kind,
         Err(_) => kind,

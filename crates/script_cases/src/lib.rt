@@ -6,10 +6,10 @@ ghost use Rattle.std.specs.Prelude.{◌≡◌};
 
 #[cfg(test)]
 mod tests {
-    use script_next::arguments;
-    use script_next::errors::LineFault;
-    use script_next::names::Names;
-    use script_next::session::Session;
+    use script::arguments;
+    use script::errors::LineFault;
+    use script::names::Names;
+    use script::session::Session;
     use std::test::Fail;
 
     // What is wrong with a line.

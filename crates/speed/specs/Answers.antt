@@ -9,3 +9,7 @@ digest_status input room = cond (nat_lt 4096 (length input)) 2 (cond (nat_lt roo
 -- the digest at the front and the rest as it was, or all as it was
 abbrev pub digest_out : List ℕ → List ℕ → List ℕ
 digest_out input old = cond (nat_lt 4096 (length input)) old (cond (nat_lt (length old) 32) old (sha256 input ++ drop 32 old))
+
+-- the last reply at the front and the rest as it was, or all as it was where the longest would not fit
+abbrev pub issued_out : List ℕ → List ℕ → List ℕ
+issued_out reply old = cond (nat_lt (length old) 137) old (reply ++ drop 137 old)

@@ -2,18 +2,23 @@
 // other implementations and compare the answers. A slice passes as a pointer and a length.
 #![tactic(auto)]
 
-ghost use Rattle.std.specs.Prelude.{◌≡◌, ◌*◌, ◌/◌, ◌<◌, ◌≤◌, length};
+ghost use Rattle.std.specs.Prelude.{◌≡◌, ◌*◌, ◌/◌, ◌<◌, ◌≤◌, length, drop};
 ghost use Rattle.circ523.specs.Kind.{points};
 ghost use Rattle.res2039.specs.Kind.{residues};
-ghost use Rattle.speed.specs.Answers.{digest_status, digest_out};
+ghost use Rattle.speed.specs.Answers.{digest_status, digest_out, issued_out};
 ghost use Rattle.speed.specs.Products.{product, product_status, product_out};
 
 use book::{Book, Work};
 use circ523::Point;
+use clients::{Order, orders};
 use digest::digest;
 use faults::{Fault, GroupFault, WireFault};
 use group::{Group, multiple};
 use res2039::Residue;
+use stations::{Issued, Issues, REPLY, redeemed_chained, redeemed_tape};
+
+mod clients;
+mod stations;
 
 // The epoch of the books' pairs.
 const EPOCH: u16 = 1;
@@ -160,4 +165,192 @@ pub extern "C" fn dilkortxi_tape_look_ups(
         rounds,
     };
     tape::with_book(memory, work).unwrap_or(0)
+}
+
+// How many redemptions a station over a chained book accepts in so many rounds; 0 where the memory holds no book.
+#[unsafe(no_mangle)]
+pub extern "C" fn dilkortxi_res2039_chained_redemptions(
+    memory: &mut [u8],
+    key: &[u8],
+    tokens: &[u8],
+    rounds: u32,
+) -> u32
+    ensures most { result ≤ rounds * (length tokens.now / 132) }
+    ensures none { length memory.old < 168 → result ≡ 0 }
+    ensures stays { length memory.old < 168 → memory.new ≡ memory.old }
+{
+    redeemed_chained::<Residue>(memory, key, tokens, rounds)
+}
+
+// The same over a tape.
+#[unsafe(no_mangle)]
+pub extern "C" fn dilkortxi_res2039_tape_redemptions(
+    memory: &mut [u8],
+    key: &[u8],
+    tokens: &[u8],
+    rounds: u32,
+) -> u32
+    ensures most { result ≤ rounds * (length tokens.now / 132) }
+    ensures none { length memory.old < 36 → result ≡ 0 }
+    ensures stays { length memory.old < 36 → memory.new ≡ memory.old }
+{
+    redeemed_tape::<Residue>(memory, key, tokens, rounds)
+}
+
+// Both in circ523.
+#[unsafe(no_mangle)]
+pub extern "C" fn dilkortxi_circ523_chained_redemptions(
+    memory: &mut [u8],
+    key: &[u8],
+    tokens: &[u8],
+    rounds: u32,
+) -> u32
+    ensures most { result ≤ rounds * (length tokens.now / 132) }
+    ensures none { length memory.old < 168 → result ≡ 0 }
+    ensures stays { length memory.old < 168 → memory.new ≡ memory.old }
+{
+    redeemed_chained::<Point>(memory, key, tokens, rounds)
+}
+
+#[unsafe(no_mangle)]
+pub extern "C" fn dilkortxi_circ523_tape_redemptions(
+    memory: &mut [u8],
+    key: &[u8],
+    tokens: &[u8],
+    rounds: u32,
+) -> u32
+    ensures most { result ≤ rounds * (length tokens.now / 132) }
+    ensures none { length memory.old < 36 → result ≡ 0 }
+    ensures stays { length memory.old < 36 → memory.new ≡ memory.old }
+{
+    redeemed_tape::<Point>(memory, key, tokens, rounds)
+}
+
+// The last reply goes to the front of `out`, which must have room for the longest; 0 where it has not.
+fn told_issued(issued: Issued, out: &mut [u8]) -> u32
+    ensures most { result ≤ issued.accepted }
+    ensures short { length out.old < 137 → result ≡ 0 }
+    ensures kept { length out.old < 137 → out.new ≡ out.old }
+    ensures rest { drop 137 out.new ≡ drop 137 out.old }
+    ensures out { out.new ≡ issued_out issued.reply out.old }
+{
+    if out.len() < REPLY {
+        return 0;
+    }
+    out[0..REPLY].copy_from_slice(&issued.reply);
+    issued.accepted
+}
+
+// How often a station over a tape answers the request in so many rounds; the last reply goes to the front of `out`.
+fn issued<G: Group>(
+    memory: &mut [u8],
+    key: &[u8],
+    request: &[u8],
+    nonce: &[u8],
+    out: &mut [u8],
+    rounds: u32,
+) -> u32
+    ensures most { result ≤ rounds }
+    ensures none { length memory.old < 36 → result ≡ 0 }
+    ensures stays { length memory.old < 36 → memory.new ≡ memory.old }
+    ensures short { length out.old < 137 → result ≡ 0 }
+    ensures kept { length out.old < 137 → out.new ≡ out.old }
+    ensures rest { drop 137 out.new ≡ drop 137 out.old }
+{
+    let work = Issues {
+        group: G::null(),
+        key,
+        request,
+        nonce,
+        rounds,
+    };
+    match tape::with_book(memory, work) {
+        Ok(issued) => told_issued(issued, out),
+        Err(_) => 0,
+    }
+}
+
+// In res2039.
+#[unsafe(no_mangle)]
+pub extern "C" fn dilkortxi_res2039_issues(
+    memory: &mut [u8],
+    key: &[u8],
+    request: &[u8],
+    nonce: &[u8],
+    out: &mut [u8],
+    rounds: u32,
+) -> u32
+    ensures most { result ≤ rounds }
+    ensures none { length memory.old < 36 → result ≡ 0 }
+    ensures stays { length memory.old < 36 → memory.new ≡ memory.old }
+    ensures short { length out.old < 137 → result ≡ 0 }
+    ensures kept { length out.old < 137 → out.new ≡ out.old }
+    ensures rest { drop 137 out.new ≡ drop 137 out.old }
+{
+    issued::<Residue>(memory, key, request, nonce, out, rounds)
+}
+
+// In circ523.
+#[unsafe(no_mangle)]
+pub extern "C" fn dilkortxi_circ523_issues(
+    memory: &mut [u8],
+    key: &[u8],
+    request: &[u8],
+    nonce: &[u8],
+    out: &mut [u8],
+    rounds: u32,
+) -> u32
+    ensures most { result ≤ rounds }
+    ensures none { length memory.old < 36 → result ≡ 0 }
+    ensures stays { length memory.old < 36 → memory.new ≡ memory.old }
+    ensures short { length out.old < 137 → result ≡ 0 }
+    ensures kept { length out.old < 137 → out.new ≡ out.old }
+    ensures rest { drop 137 out.new ≡ drop 137 out.old }
+{
+    issued::<Point>(memory, key, request, nonce, out, rounds)
+}
+
+// How often a shop, in so many rounds, blinds a batch and finishes it with the reply. The request goes to the front of
+// `request`, the tokens to that of `tokens`.
+#[unsafe(no_mangle)]
+pub extern "C" fn dilkortxi_res2039_batches<'a>(
+    pk: &'a [u8],
+    seeds: &'a [u8],
+    blinds: &'a [u8],
+    reply: &'a [u8],
+    request: &mut [u8],
+    tokens: &mut [u8],
+    rounds: u32,
+) -> u32
+    ensures { result ≤ rounds }
+{
+    let order = Order {
+        pk,
+        seeds,
+        blinds,
+        reply,
+    };
+    orders::<Residue>(order, request, tokens, rounds)
+}
+
+// The same in circ523.
+#[unsafe(no_mangle)]
+pub extern "C" fn dilkortxi_circ523_batches<'a>(
+    pk: &'a [u8],
+    seeds: &'a [u8],
+    blinds: &'a [u8],
+    reply: &'a [u8],
+    request: &mut [u8],
+    tokens: &mut [u8],
+    rounds: u32,
+) -> u32
+    ensures { result ≤ rounds }
+{
+    let order = Order {
+        pk,
+        seeds,
+        blinds,
+        reply,
+    };
+    orders::<Point>(order, request, tokens, rounds)
 }

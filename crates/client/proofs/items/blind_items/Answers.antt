@@ -1,9 +1,9 @@
-use Rattle.std.proofs.Common.{◌≡◌, ℕ, ◌+◌, ◌-◌, ◌*◌, List, ◌++◌, length, take, drop, Ok, Err, sym, refl, ap, ◌∙◌, arith, rules}
+use Rattle.std.proofs.Common.{◌≡◌, ℕ, ◌+◌, ◌-◌, ◌*◌, List, [], ◌++◌, length, take, drop, Ok, Err, sym, refl, ap, ◌∙◌, arith, rules}
 use Rattle.std.proofs.lemmas.Result.{err_from_is_err_and}
 use Rattle.group.proofs.Weighing.{item_within}
 use Rattle.voprf.proofs.Sums.{next_place}
-use Rattle.client.specs.Blinding.{blind_codes}
-use Rattle.client.proofs.Blinds.{onward, finished}
+use Rattle.client.specs.Batches.{sent_code, walked}
+use Rattle.client.proofs.Walks.{sent_onward, finished}
 use Rattle.client.proofs.items.blind_items.Goals as goal
 
 pub overflow_add-next : goal.overflow_add-next
@@ -13,8 +13,8 @@ overflow_add-next g c =
     c.loop-i-test.true c.loop-i.invariant.0 c.requires.blinds in
     search rules
 
-pub slice_bounds-open-end : goal.slice_bounds-open-end
-slice_bounds-open-end g c =
+pub slice_bounds-send-end : goal.slice_bounds-send-end
+slice_bounds-send-end g c =
     let e = c.scalar_width-width.ensures in
     let inside = item_within c.loop-i.at c.loop-i.i g.G.Group.model.scalars.width c.args.count (length c.args.blinds.now)
     c.loop-i-test.true c.loop-i.invariant.0 c.requires.blinds in
@@ -24,7 +24,7 @@ pub put-end-requires : goal.put-end-requires
 put-end-requires g c =
     let m = g.G.Group.model in
     let wide : length c.as_slice.result.now ≡ m.element_width =
-    ap length (c.as_slice.ensures ∙ c.encode.ensures) ∙ m.coded c.blind-sent.result in
+    ap length (c.as_slice.ensures ∙ c.encode.ensures) ∙ m.coded c.in_ok-sent.sent in
     let few = c.requires.few in
     let fits = m.element_fits in
     let place = c.loop-i.invariant.1 in
@@ -36,31 +36,31 @@ pub loop-i-preserved : goal.loop-i-preserved
 loop-i-preserved g c =
     let m = g.G.Group.model in
     let i = c.loop-i.i in
-    let coded : c.as_slice.result.now ≡ m.code c.blind-sent.result = c.as_slice.ensures ∙ c.encode.ensures in
-    let wide : length c.as_slice.result.now ≡ m.element_width = ap length coded ∙ m.coded c.blind-sent.result in
+    let coded : c.as_slice.result.now ≡ m.code c.in_ok-sent.sent = c.as_slice.ensures ∙ c.encode.ensures in
+    let wide : length c.as_slice.result.now ≡ m.element_width = ap length coded ∙ m.coded c.in_ok-sent.sent in
     let stayed : length c.put-end.new.bytes ≡ length c.loop-i.codes = c.put-end.auto.bytes in (
       next_place c.loop-i.at i m.scalars.width c.scalar_width-width.result c.loop-i.invariant.0 c.scalar_width-width.ensures,
       c.put-end.ensures.ends ∙ next_place c.loop-i.end i m.element_width (length c.as_slice.result.now) c.loop-i.invariant.1 wide,
       stayed ∙ c.loop-i.invariant.2,
-      ap (blind_codes m c.args.epoch c.args.pk (i + 1) (c.args.count - (i + 1)) (drop (64 * (i + 1)) c.args.seeds.now)
-          (drop (c.loop-i.at + c.scalar_width-width.result) c.args.blinds.now))
-          (c.put-end.ensures.front ∙ ap (λ (l : List ℕ). take c.loop-i.end c.loop-i.codes ++ l) (coded ∙ ap m.code c.blind-sent.ensures))
-          ∙ onward m c.args.epoch c.args.pk i c.args.count c.args.seeds.now c.args.blinds.now (take c.loop-i.end c.loop-i.codes)
+      ap (walked m (sent_code m) c.args.epoch c.args.id.now (i + 1) (c.args.count - (i + 1)) (drop (64 * (i + 1)) c.args.seeds.now)
+          (drop (c.loop-i.at + c.scalar_width-width.result) c.args.blinds.now) [])
+          (c.put-end.ensures.front ∙ ap (λ (l : List ℕ). take c.loop-i.end c.loop-i.codes ++ l) coded)
+          ∙ sent_onward m c.args.epoch c.args.id.now i c.args.count c.args.seeds.now c.args.blinds.now (take c.loop-i.end c.loop-i.codes)
           c.loop-i.at c.scalar_width-width.result (64 * i + 64 - 64 * i) (c.loop-i.at + c.scalar_width-width.result - c.loop-i.at)
-          c.input-input.result c.open.result (Ok c.in_ok-r.r) c.loop-i-test.true c.scalar_width-width.ensures (omega arith) (omega arith)
-          c.input-input.ensures c.open.ensures c.in_ok-r.ensures
+          c.input-input.result c.send.result (Ok c.in_ok-sent.sent) c.loop-i-test.true c.scalar_width-width.ensures (omega arith) (omega arith)
+          c.input-input.ensures c.send.ensures c.in_ok-sent.ensures
           ∙ c.loop-i.invariant.3,
     )
 
-pub returns-in_err-r : goal.returns-in_err-r
-returns-in_err-r g c =
+pub returns-in_err-sent : goal.returns-in_err-sent
+returns-in_err-sent g c =
     let m = g.G.Group.model in
     let i = c.loop-i.i in
     let p = err_from_is_err_and c.from_residual.result c.from_residual.ensures.1 in
-    let stops = onward m c.args.epoch c.args.pk i c.args.count c.args.seeds.now c.args.blinds.now (take c.loop-i.end c.loop-i.codes)
+    let stops = sent_onward m c.args.epoch c.args.id.now i c.args.count c.args.seeds.now c.args.blinds.now (take c.loop-i.end c.loop-i.codes)
     c.loop-i.at c.scalar_width-width.result (64 * i + 64 - 64 * i) (c.loop-i.at + c.scalar_width-width.result - c.loop-i.at)
-    c.input-input.result c.open.result (Err c.in_err-r.field-0.0) c.loop-i-test.true c.scalar_width-width.ensures (omega arith) (omega arith)
-    c.input-input.ensures c.open.ensures c.in_err-r.ensures
+    c.input-input.result c.send.result (Err c.in_err-sent.field-0.0) c.loop-i-test.true c.scalar_width-width.ensures (omega arith) (omega arith)
+    c.input-input.ensures c.send.ensures c.in_err-sent.ensures
     ∙ c.loop-i.invariant.3 in
     rw (p.1, p.2) (record { codes = sym stops; end = tt })
 
@@ -70,7 +70,7 @@ returns g c =
     let last : c.loop-i.i ≡ c.args.count = omega arith in
     record {
       codes = sym c.loop-i.invariant.3
-          ∙ finished m c.args.epoch c.args.pk c.loop-i.i c.args.count (drop (64 * c.loop-i.i) c.args.seeds.now)
-          (drop c.loop-i.at c.args.blinds.now) (take c.loop-i.end c.loop-i.codes) c.loop-i-test.false;
+          ∙ finished m (sent_code m) c.args.epoch c.args.id.now c.loop-i.i c.args.count (drop (64 * c.loop-i.i) c.args.seeds.now)
+          (drop c.loop-i.at c.args.blinds.now) [] (take c.loop-i.end c.loop-i.codes) c.loop-i-test.false;
       end = c.loop-i.invariant.1 ∙ ap (λ (n : ℕ). n * m.element_width) last;
     }

@@ -1,6 +1,6 @@
 use Rattle.std.proofs.Common.{take, Ok, vec_items, sym, ap, ◌∙◌, arith}
 use Rattle.std.proofs.lemmas.List.{with_items_is}
-use Rattle.script_next.specs.Reports.{bytes}
+use Rattle.script.specs.Reports.{bytes}
 use Rattle.counter.specs.Orders.{waiting, Waiting}
 use Rattle.counter.proofs.Turns.{none_waits, blind_says}
 use Rattle.counter.proofs.orders.blind.Goals as goal

@@ -1,11 +1,6 @@
-use Rattle.std.proofs.Common.{◌≡◌, ℕ, ◌+◌, ◌*◌, ◌/◌, ◌≤◌, length, subst, arith}
+use Rattle.std.proofs.Common.{◌≡◌, ◌*◌, ◌/◌, ◌≤◌, length, subst, arith}
+use Rattle.speed.proofs.Rounds.{round_more}
 use Rattle.speed.proofs.LookUpsWork.on.Goals as goal
-
--- a round more finds as many again at most
-round_more : (n q found here all : ℕ) → found ≤ n * q → here ≤ q → all ≤ found + here → all ≤ (n + 1) * q
-round_more n q found here all a b c =
-    let e : (n + 1) * q ≡ n * q + q = omega arith in
-    omega arith
 
 pub loop-preserved : goal.loop-preserved
 loop-preserved g c = round_more c.loop.counter (length c.args.self.sought.now / 32) c.loop.found c.found_in.result _ c.loop.invariant c.found_in.ensures (omega (arith, c.saturating_add-found.ensures))

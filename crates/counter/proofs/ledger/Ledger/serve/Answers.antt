@@ -1,8 +1,8 @@
 use Rattle.std.proofs.Common.{◌≡◌, List, [], ◌∷◌, map, Ok, Err, vec_items, Result, ap, ◌∙◌, subst}
 use mathlib.Core.List.{map-append}
 use Rattle.faults.specs.declared.Refusal.{Refusal}
-use Rattle.script_next.specs.declared.answers.Answer.{Answer}
-use Rattle.script_next.specs.declared.errors.LineFault.{LineFault}
+use Rattle.script.specs.declared.answers.Answer.{Answer}
+use Rattle.script.specs.declared.errors.LineFault.{LineFault}
 use Rattle.counter.specs.Ledgers.{Lent, Standing, lent_of, places_in, Serves, KeepsCall}
 use Rattle.counter.specs.declared.ledger.Entry.{Entry}
 use Rattle.counter.proofs.ledger.Ledger.serve.Goals as goal

@@ -4,7 +4,7 @@ use Rattle.script.specs.Kept.{holds}
 use Rattle.script.specs.Reports.{outcome_of}
 use Rattle.script.specs.Sessions.{carried, step, performed, kept, chosen}
 use Rattle.script.specs.Statements.{parts, parsed}
-use Rattle.script.specs.Tasks.{then}
+use Rattle.script.specs.Reading.{then}
 use Rattle.script.proofs.session.Session.carry_out.Goals as goal
 use Rattle.script.proofs.session.Session.carry_out.Goals.{in-Some-name+in_ok-keep, in_default-name}
 

@@ -1,9 +1,0 @@
-pub mod Walks
-pub mod Requests
-pub mod Replies
-pub mod Making
-pub mod Following
-pub mod Finishes
-pub mod Hashes
-pub mod Honesty
-pub mod Accepting

@@ -1,4 +1,0 @@
-pub mod Batches
-pub mod Blinding
-pub mod Finishing
-pub mod Honest

@@ -1,0 +1,187 @@
+// What a line asks of the client or of a station: the words of the protocol, and what follows them.
+ghost use Rattle.std.specs.Prelude.{◌≡◌, ◌<◌};
+ghost use Rattle.text.specs.Lines.{left};
+ghost use Rattle.script.specs.Kept.{holds};
+ghost use Rattle.script.specs.Protocol.{protocol_word, acted, Acts};
+
+use crate::errors::LineFault;
+use crate::names::Names;
+use crate::reading::{
+    LONGEST, Shelf, end, epoch, four, number, one, room, shelf_and_length, three, two,
+};
+use std::alloc::Global;
+use text::words::Words;
+
+#[derive(Clone, Copy, PartialEq, Eq, Debug)]
+pub enum Word {
+    // `scratch LENGTH` sets the length of the scratch that the calls below are lent
+    Scratch,
+    // `outlet LENGTH` sets the length of the outlet; `outlet full` makes it one that every answer fits
+    Outlet,
+    // `blind EPOCH PK SEEDS BLINDS` answers the request of a batch, which is pending from then on
+    Blind,
+    // `finish PK SEEDS BLINDS REPLY` ends the pending batch, and answers its tokens
+    Finish,
+    // `abandon` gives the pending batch up, and answers its epoch and how many items it has
+    Abandon,
+    // `station KIND LENGTH` makes a station over a fresh book of so many bytes
+    Station,
+    // `open EPOCH KEY` opens an epoch of the station, and answers its public key
+    Open,
+    // `close EPOCH` ends an epoch, and answers how many of its tokens were spent
+    Close,
+    // `issue REQUEST NONCE` answers the reply to a request
+    Issue,
+    // `redeem TOKEN` takes a token once
+    Redeem,
+    // `count` answers how many tokens of open epochs are spent
+    Count,
+}
+
+impl Word {
+    // The word itself.
+    pub fn text(self) -> &'static str
+        ensures { result.now ≡ protocol_word self }
+    {
+        match self {
+            Word::Scratch => "scratch",
+            Word::Outlet => "outlet",
+            Word::Blind => "blind",
+            Word::Finish => "finish",
+            Word::Abandon => "abandon",
+            Word::Station => "station",
+            Word::Open => "open",
+            Word::Close => "close",
+            Word::Issue => "issue",
+            Word::Redeem => "redeem",
+            Word::Count => "count",
+        }
+    }
+}
+
+// What is asked of a station.
+#[derive(Drop)]
+pub enum Service {
+    Open { epoch: u16, key: Vec<u8> },
+    Close { epoch: u16 },
+    Issue { request: Vec<u8>, nonce: Vec<u8> },
+    Redeem { token: Vec<u8> },
+    Count,
+}
+
+// What a line asks, with its words read.
+#[derive(Drop)]
+pub enum Action {
+    Scratch {
+        length: u64,
+    },
+    Outlet {
+        length: u64,
+    },
+    Blind {
+        epoch: u16,
+        pk: Vec<u8>,
+        seeds: Vec<u8>,
+        blinds: Vec<u8>,
+    },
+    Finish {
+        pk: Vec<u8>,
+        seeds: Vec<u8>,
+        blinds: Vec<u8>,
+        reply: Vec<u8>,
+    },
+    Abandon,
+    // a station is to be made
+    Station {
+        shelf: Shelf,
+        length: u64,
+    },
+    // a call on the station
+    Serve {
+        service: Service,
+    },
+}
+
+// Reads the words after a word of the protocol: as many as it needs, and no more.
+pub fn read(
+    word: Word,
+    mut words: Words<'_>,
+    at: usize,
+    names: &Names,
+    heap: Global,
+) -> Result<Action, LineFault>
+    requires { at < 5 }
+    ensures { Acts (acted (holds names.now) word at (left words.entry)) result }
+{
+    match word {
+        Word::Scratch => {
+            let length = number(&mut words, at, LONGEST)?;
+            end(words, at + 1)?;
+            Ok(Action::Scratch { length })
+        }
+        Word::Outlet => {
+            let length = room(&mut words, at)?;
+            end(words, at + 1)?;
+            Ok(Action::Outlet { length })
+        }
+        Word::Blind => {
+            let epoch = epoch(&mut words, at)?;
+            let (pk, seeds, blinds) = three(words, at + 1, names, heap)?;
+            Ok(Action::Blind {
+                epoch,
+                pk,
+                seeds,
+                blinds,
+            })
+        }
+        Word::Finish => {
+            let (pk, seeds, blinds, reply) = four(words, at, names, heap)?;
+            Ok(Action::Finish {
+                pk,
+                seeds,
+                blinds,
+                reply,
+            })
+        }
+        Word::Abandon => {
+            end(words, at)?;
+            Ok(Action::Abandon)
+        }
+        Word::Station => {
+            let (shelf, length) = shelf_and_length(words, at)?;
+            Ok(Action::Station { shelf, length })
+        }
+        Word::Open => {
+            let epoch = epoch(&mut words, at)?;
+            let key = one(words, at + 1, names, heap)?;
+            Ok(Action::Serve {
+                service: Service::Open { epoch, key },
+            })
+        }
+        Word::Close => {
+            let epoch = epoch(&mut words, at)?;
+            end(words, at + 1)?;
+            Ok(Action::Serve {
+                service: Service::Close { epoch },
+            })
+        }
+        Word::Issue => {
+            let (request, nonce) = two(words, at, names, heap)?;
+            Ok(Action::Serve {
+                service: Service::Issue { request, nonce },
+            })
+        }
+        Word::Redeem => {
+            let token = one(words, at, names, heap)?;
+            Ok(Action::Serve {
+                service: Service::Redeem { token },
+            })
+        }
+        Word::Count => {
+            end(words, at)?;
+            Ok(Action::Serve {
+                service: Service::Count,
+            })
+        }
+    }
+}

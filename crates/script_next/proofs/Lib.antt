@@ -1,3 +1,0 @@
-pub mod Arguing
-pub mod Printing
-pub mod Table

@@ -1,9 +1,0 @@
-pub mod Arguments
-pub mod Commands
-pub mod Kept
-pub mod Protocol
-pub mod Reading
-pub mod Reports
-pub mod Sessions
-pub mod Statements
-pub mod Tasks
