@@ -34,11 +34,12 @@ fn print(rt: &HostRuntime, report: &Report) -> io::Result<()> {
     rt.stdout().write_all(line.as_slice())
 }
 
-// What the lines so far have kept, chosen and set.
-#[derive(Drop)]
+// What the lines so far have kept, chosen and set. A batch that is pending cannot be let go, so a state has no
+// `Drop`: `end` takes it apart.
 struct State {
     session: Session,
     counter: Counter,
+    pending: Option<Pending>,
 }
 
 // What a line comes to: it was carried out, or it asks for a book.
@@ -53,7 +54,6 @@ enum Turn {
 fn take_turn<D: Desk>(
     rt: &HostRuntime,
     state: &mut State,
-    pending: &mut Option<Pending>,
     desk: &mut D,
     line: &[u8],
 ) -> Result<Turn, LineFault> {
@@ -70,7 +70,9 @@ fn take_turn<D: Desk>(
         }
         Task::Protocol { action } => {
             let kind = state.session.kind();
-            let outcome = state.counter.answer(kind, action, pending, rt.alloc())?;
+            let outcome = state
+                .counter
+                .answer(kind, action, &mut state.pending, rt.alloc())?;
             state.session.settle(line, &outcome)?;
             Ok(Turn::Carried(Some(Report { command, outcome })))
         }
@@ -93,14 +95,13 @@ fn no_command(rt: &HostRuntime, at: usize, fault: LineFault) -> io::Result<()> {
 fn serve<D: Desk + Drop>(
     rt: &HostRuntime,
     state: &mut State,
-    pending: &mut Option<Pending>,
     lines: &[String],
     from: usize,
     desk: D,
 ) -> io::Result<usize> {
     let mut desk = desk;
-    for i in from..lines.len() {
-        match take_turn(rt, state, pending, &mut desk, lines[i].as_bytes()) {
+    for (i, line) in lines.iter().enumerate().skip(from) {
+        match take_turn(rt, state, &mut desk, line.as_bytes()) {
             Ok(Turn::Carried(Some(report))) => print(rt, &report)?,
             Ok(Turn::Carried(None)) => {}
             Ok(Turn::Book(_, _)) => return Ok(i),
@@ -129,7 +130,6 @@ fn print_book(rt: &HostRuntime, capacity: Result<u16, WireFault>) -> io::Result<
 fn open(
     rt: &HostRuntime,
     state: &mut State,
-    pending: &mut Option<Pending>,
     lines: &[String],
     at: usize,
     shelf: Shelf,
@@ -147,13 +147,12 @@ fn open(
                     serve(
                         rt,
                         state,
-                        pending,
                         lines,
                         below,
                         TapeBook::over(memory, capacity),
                     )
                 }
-                Err(_) => serve(rt, state, pending, lines, below, Empty),
+                Err(_) => serve(rt, state, lines, below, Empty),
             }
         }
         Shelf::Chained => {
@@ -164,13 +163,12 @@ fn open(
                     serve(
                         rt,
                         state,
-                        pending,
                         lines,
                         below,
                         ChainedBook::over(memory, capacity),
                     )
                 }
-                Err(_) => serve(rt, state, pending, lines, below, Empty),
+                Err(_) => serve(rt, state, lines, below, Empty),
             }
         }
     }
@@ -185,18 +183,13 @@ fn read_lines(rt: &HostRuntime, lines: &mut Vec<String>) -> io::Result<()> {
 }
 
 // Carries out the lines, book after book.
-fn carry_out(rt: &HostRuntime, pending: &mut Option<Pending>, lines: &[String]) -> io::Result<()> {
-    let mut state = State {
-        session: Session::new(rt.alloc()),
-        counter: Counter::new(),
-    };
-    let mut next = serve(rt, &mut state, pending, lines, 0, Empty)?;
-    for i in 0..lines.len() {
+fn carry_out(rt: &HostRuntime, state: &mut State, lines: &[String]) -> io::Result<()> {
+    let mut next = serve(rt, state, lines, 0, Empty)?;
+    for (i, line) in lines.iter().enumerate() {
         if i == next {
-            if let Ok(Some(order)) = state.session.order(lines[i].as_bytes()) {
+            if let Ok(Some(order)) = state.session.order(line.as_bytes()) {
                 if let Task::Book { shelf, length } = order.task {
-                    let length = length as usize;
-                    next = open(rt, &mut state, pending, lines, i, shelf, length)?;
+                    next = open(rt, state, lines, i, shelf, length as usize)?;
                 }
             }
         }
@@ -205,7 +198,12 @@ fn carry_out(rt: &HostRuntime, pending: &mut Option<Pending>, lines: &[String]) 
 }
 
 // Gives up a batch that is still pending, and says so.
-fn give_up(rt: &HostRuntime, pending: Option<Pending>) -> io::Result<()> {
+fn end(rt: &HostRuntime, state: State) -> io::Result<()> {
+    let State {
+        session: _,
+        counter: _,
+        pending,
+    } = state;
     if let Some(batch) = pending {
         let (epoch, count) = batch.abandon();
         eprintln!(rt;
@@ -218,9 +216,13 @@ fn give_up(rt: &HostRuntime, pending: Option<Pending>) -> io::Result<()> {
 fn main(rt: HostRuntime) -> io::Result<()> {
     let mut lines = Vec::new(rt.alloc());
     let read = read_lines(&rt, &mut lines);
-    let mut pending = None;
-    let carried = carry_out(&rt, &mut pending, lines.as_slice());
-    give_up(&rt, pending)?;
+    let mut state = State {
+        session: Session::new(rt.alloc()),
+        counter: Counter::new(),
+        pending: None,
+    };
+    let carried = carry_out(&rt, &mut state, lines.as_slice());
+    end(&rt, state)?;
     carried?;
     if let Err(error) = read {
         let number = lines.len().saturating_add(1);
