@@ -8,7 +8,7 @@
 //   9  outlet too short      wire       11  the proof fails           proof     13  authenticator        token
 //  14  pair is spent         book       15  no free place             book          differs
 //
-// Each layer has an enum of its own. A layer above keeps a fault from below whole inside its own enum,
+// Each layer has an enum of its own, whose variants have these numbers. A layer above keeps a fault from below whole inside its own enum,
 // so nothing is lost on the way up: the group's inside the batch's, which adds the item, and the batch's
 // and the book's inside the station's. `docs/FAULTS.md` has the whole list, with when each is told.
 #![tactic(auto)]
@@ -17,7 +17,7 @@ ghost use Rattle.std.specs.Prelude.{◌≡◌};
 ghost use Rattle.faults.specs.declared.Refusal.{Refusal};
 ghost use Rattle.faults.specs.declared.BatchFault.TheVariants.{Wire as BatchWire, Ring as BatchRing, Group as BatchGroup, Item as BatchItem};
 ghost use Rattle.faults.specs.declared.StationFault.TheVariants.{Wire as StationWire, Ring as StationRing, Group as StationGroup, Batch as StationBatch, Token as StationToken, Book as StationBook};
-ghost use Rattle.faults.specs.Numbers.{wire_tells, group_tells, ring_tells, batch_tells, token_tells, book_tells, station_tells, layer_name};
+ghost use Rattle.faults.specs.Numbers.{wire_tells, group_tells, ring_tells, batch_tells, token_tells, book_tells, station_tells, layer_name, refuses};
 
 // The layers of the part, as a refusal names them.
 #[derive(Clone, Copy, PartialEq, Eq, Debug)]
@@ -38,6 +38,7 @@ pub enum Layer {
 
 impl Layer {
     // The layer's name, as a report prints it.
+    // Stays a `&str`, with no `Display`: a report's line is put together from pieces of text, and formats nothing.
     pub fn name(self) -> &'static str
         ensures { result.now ≡ layer_name self }
     {
@@ -50,9 +51,21 @@ impl Layer {
             Layer::Book => "book",
         }
     }
+
+    // The refusal of this layer with a number, of no item.
+    fn refuses(self, number: u8) -> Refusal
+        ensures { result ≡ refuses number self }
+    {
+        Refusal {
+            number,
+            layer: self,
+            item: 0,
+        }
+    }
 }
 
 // What a refusal tells. The item counts from 1, and is 0 where the fault is of no item.
+// Stays a number with its 0, and no `Option` of an item: C and reports are told it so.
 #[derive(Clone, Copy, PartialEq, Eq, Debug)]
 pub struct Refusal {
     pub number: u8,
@@ -71,56 +84,35 @@ pub trait Fault: Copy {
 // What is wrong with the bytes handed in, or with the room for the answer.
 #[derive(Clone, Copy, PartialEq, Eq, Debug)]
 pub enum WireFault {
-    ShortScratch,
-    WrongLength,
-    WrongType,
-    WrongCount,
-    ShortOutlet,
+    ShortScratch = 1,
+    WrongLength = 2,
+    WrongType = 3,
+    WrongCount = 4,
+    ShortOutlet = 9,
 }
 
 impl Fault for WireFault {
     ghost tells = { wire_tells };
 
     fn refusal(self) -> Refusal {
-        let number = match self {
-            WireFault::ShortScratch => 1,
-            WireFault::WrongLength => 2,
-            WireFault::WrongType => 3,
-            WireFault::WrongCount => 4,
-            WireFault::ShortOutlet => 9,
-        };
-        Refusal {
-            number,
-            layer: Layer::Wire,
-            item: 0,
-        }
+        Layer::Wire.refuses(self as u8)
     }
 }
 
 // What is wrong with an element or a scalar.
 #[derive(Clone, Copy, PartialEq, Eq, Debug)]
 pub enum GroupFault {
-    NoElement,
-    NullElement,
-    NoScalar,
-    NullInput,
+    NoElement = 6,
+    NullElement = 7,
+    NoScalar = 8,
+    NullInput = 10,
 }
 
 impl Fault for GroupFault {
     ghost tells = { group_tells };
 
     fn refusal(self) -> Refusal {
-        let number = match self {
-            GroupFault::NoElement => 6,
-            GroupFault::NullElement => 7,
-            GroupFault::NoScalar => 8,
-            GroupFault::NullInput => 10,
-        };
-        Refusal {
-            number,
-            layer: Layer::Group,
-            item: 0,
-        }
+        Layer::Group.refuses(self as u8)
     }
 }
 
@@ -136,23 +128,15 @@ impl GroupFault {
 // Why a pair is not marked.
 #[derive(Clone, Copy, PartialEq, Eq, Debug)]
 pub enum BookFault {
-    Spent,
-    Full,
+    Spent = 14,
+    Full = 15,
 }
 
 impl Fault for BookFault {
     ghost tells = { book_tells };
 
     fn refusal(self) -> Refusal {
-        let number = match self {
-            BookFault::Spent => 14,
-            BookFault::Full => 15,
-        };
-        Refusal {
-            number,
-            layer: Layer::Book,
-            item: 0,
-        }
+        Layer::Book.refuses(self as u8)
     }
 }
 
@@ -160,48 +144,31 @@ impl Fault for BookFault {
 // batch's counts as not open.
 #[derive(Clone, Copy, PartialEq, Eq, Debug)]
 pub enum RingFault {
-    NotOpen,
-    NotAbove,
-    AllOpen,
+    NotOpen = 5,
+    NotAbove = 16,
+    AllOpen = 17,
 }
 
 impl Fault for RingFault {
     ghost tells = { ring_tells };
 
     fn refusal(self) -> Refusal {
-        let number = match self {
-            RingFault::NotOpen => 5,
-            RingFault::NotAbove => 16,
-            RingFault::AllOpen => 17,
-        };
-        Refusal {
-            number,
-            layer: Layer::Ring,
-            item: 0,
-        }
+        Layer::Ring.refuses(self as u8)
     }
 }
 
 // What is wrong with what a token says of itself.
 #[derive(Clone, Copy, PartialEq, Eq, Debug)]
 pub enum TokenFault {
-    OtherKey,
-    OtherAuthenticator,
+    OtherKey = 12,
+    OtherAuthenticator = 13,
 }
 
 impl Fault for TokenFault {
     ghost tells = { token_tells };
 
     fn refusal(self) -> Refusal {
-        let number = match self {
-            TokenFault::OtherKey => 12,
-            TokenFault::OtherAuthenticator => 13,
-        };
-        Refusal {
-            number,
-            layer: Layer::Token,
-            item: 0,
-        }
+        Layer::Token.refuses(self as u8)
     }
 }
 
@@ -224,23 +191,11 @@ impl Fault for BatchFault {
             BatchFault::Wire(fault) => fault.refusal(),
             BatchFault::Ring(fault) => fault.refusal(),
             BatchFault::Group(fault) => fault.refusal(),
-            BatchFault::Item { item, fault } => {
-                let Refusal {
-                    number,
-                    layer,
-                    item: _,
-                } = fault.refusal();
-                Refusal {
-                    number,
-                    layer,
-                    item,
-                }
-            }
-            BatchFault::BadProof => Refusal {
-                number: 11,
-                layer: Layer::Proof,
-                item: 0,
+            BatchFault::Item { item, fault } => Refusal {
+                item,
+                ..fault.refusal()
             },
+            BatchFault::BadProof => Layer::Proof.refuses(11),
         }
     }
 }
