@@ -1,4 +1,5 @@
 // The code of an element or of a scalar: the first `len` bytes, at most 8. The others mean nothing.
+// Stays a buffer and its length: a code is copied as a plain value, and an `ArrayVec` is not `Copy`.
 ghost use Rattle.std.specs.Prelude.{◌≤◌};
 
 #[derive(Clone, Copy)]

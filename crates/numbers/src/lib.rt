@@ -13,49 +13,43 @@ pub mod code;
 pub use code::Code;
 
 impl Code {
+    // The code that has these bytes.
+    fn front<const N: usize>(front: [u8; N]) -> Code
+        requires { N ≤ 8 }
+        ensures { code_bytes result ≡ front.entry }
+    {
+        let mut bytes = [0; 8];
+        bytes[..N].copy_from_slice(&front);
+        Code { bytes, len: N }
+    }
+
     // A code of one byte.
     pub fn one(byte: u8) -> Code
         ensures { code_bytes result ≡ byte ∷ [] }
     {
-        Code {
-            bytes: [byte, 0, 0, 0, 0, 0, 0, 0],
-            len: 1,
-        }
+        Code::front([byte])
     }
 
     // A number in two bytes.
     pub fn two(number: u16) -> Code
         ensures { code_bytes result ≡ number / 256 ∷ number % 256 ∷ [] }
     {
-        Code {
-            bytes: [(number / 256) as u8, (number % 256) as u8, 0, 0, 0, 0, 0, 0],
-            len: 2,
-        }
+        Code::front(number.to_be_bytes())
     }
 
     // Two numbers in two bytes each.
     pub fn four(first: u16, second: u16) -> Code
         ensures { code_bytes result ≡ first / 256 ∷ first % 256 ∷ second / 256 ∷ second % 256 ∷ [] }
     {
-        Code {
-            bytes: [
-                (first / 256) as u8,
-                (first % 256) as u8,
-                (second / 256) as u8,
-                (second % 256) as u8,
-                0,
-                0,
-                0,
-                0,
-            ],
-            len: 4,
-        }
+        let [a, b] = first.to_be_bytes();
+        let [c, d] = second.to_be_bytes();
+        Code::front([a, b, c, d])
     }
 
     pub fn as_slice(&self) -> &[u8]
         ensures { result.now ≡ code_bytes self.now }
     {
-        &self.bytes[0..self.len]
+        &self.bytes[..self.len]
     }
 }
 
@@ -63,7 +57,5 @@ impl Code {
 pub fn leading_word(bytes: &[u8; 32]) -> u64
     ensures { result ≡ word bytes.now }
 {
-    u64::from_be_bytes([
-        bytes[0], bytes[1], bytes[2], bytes[3], bytes[4], bytes[5], bytes[6], bytes[7],
-    ])
+    u64::from_be_bytes(*bytes.first_chunk().unwrap())
 }
