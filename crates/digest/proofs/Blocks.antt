@@ -1,6 +1,6 @@
 -- Hash values over bytes that are put together from parts.
 use Rattle.std.proofs.Common.{◌≡◌, ℕ, zero, suc, ◌+◌, ◌*◌, ◌/◌, ◌≤◌, List, ◌++◌, length, take, drop, sym, refl, ap, ◌∙◌, append_assoc, add-zero, add-suc, mul-suc, mul-add, arith}
-use Rattle.std.proofs.lemmas.List.{length-append, take-append-le, drop-append-le, drop_at, take-append-drop, length-take-le, length-drop, drop-drop, take_all}
+use Rattle.std.proofs.lemmas.List.{length-append, take-append-le, drop-append-le, drop_at, take-append-drop, length-take-le, length-drop, drop-drop}
 use Rattle.digest.specs.Padding.{padding, padded}
 use Rattle.digest.specs.Sha256.{compressed, chained, closed}
 
@@ -49,13 +49,3 @@ closed_whole s m n e =
     ∙ chained_append s a (b ++ p) n (length (b ++ p) / 64) la
     ∙ ap (λ (v : List ℕ). chained v (length (b ++ p) / 64) (b ++ p))
     (sym (chained_front s a b n (omega arith)) ∙ ap (chained s n) split)
-
-pub one_block : (s bytes : List ℕ) → length bytes ≡ 64 → chained s (length bytes / 64) bytes ≡ compressed s bytes
-unfolding chained
-one_block s bytes h =
-    ap (λ (i : ℕ). chained s (i / 64) bytes) h ∙ ap (compressed s) (take_all 64 bytes (omega arith))
-
-pub two_blocks : (s bytes : List ℕ) → length bytes ≡ 128
-    → chained s (length bytes / 64) bytes ≡ compressed (compressed s (take 64 bytes)) (take 64 (drop 64 bytes))
-unfolding chained
-two_blocks s bytes h = ap (λ (i : ℕ). chained s (i / 64) bytes) h

@@ -1,7 +1,8 @@
 -- The two functions that choose bit by bit, in the forms that take fewest operations.
-use Rattle.std.proofs.Common.{◌≡◌, ℕ, zero, suc, ◌-◌, ◌/◌, ◌%◌, ◌^◌, ◌<◌, refl, pow-suc, div-add-mod', arith}
-use lib.Bits.{bit_and, bit_xor, and_shr, xor_shr, and_mod, xor_mod}
-use Rattle.digest.specs.Words.{majority}
+use Rattle.std.proofs.Common.{◌≡◌, ℕ, zero, suc, ◌-◌, ◌*◌, ◌/◌, ◌%◌, ◌^◌, ◌<◌, refl, ap, ◌∙◌, pow-suc, div-add-mod', arith, w32}
+use Rattle.std.specs.Int.{rotate_right}
+use lib.Bits.{bit_and, bit_or, bit_xor, and_shr, xor_shr, and_mod, xor_mod}
+use Rattle.digest.specs.Words.{majority, Turns, rotr}
 
 half_and : (a b : ℕ) → bit_and a b / 2 ≡ bit_and (a / 2) (b / 2)
 half_and a b = and_shr a b 1
@@ -82,3 +83,11 @@ choice_short (suc k) x y z hx hy hz =
     let low : ((2 ^ suc k - 1) - x) % 2 ≡ 1 - x % 2 = omega arith in
     by_digits (simp (half_and, half_xor, high) ih)
     (simp (last_and, last_xor, low) (choice_bit (x % 2) (y % 2) (z % 2) (omega arith) (omega arith) (omega arith)))
+
+-- a word that is turned right by 1 to 31 places
+pub rotated : (n x : ℕ) → Turns n → rotate_right w32 x n ≡ rotr n x
+rotated n x t =
+    let places : n % 32 ≡ n = omega (arith, t.1) in
+    let back : (32 - n) % 32 ≡ 32 - n = omega (arith, t.0) in
+    ap (λ (k : ℕ). bit_or (x / 2 ^ k) ((x * 2 ^ ((32 - k) % 32)) % 2 ^ 32)) places
+    ∙ ap (λ (k : ℕ). bit_or (x / 2 ^ n) ((x * 2 ^ k) % 2 ^ 32)) back

@@ -1,9 +1,9 @@
 -- One step more of the message schedule and of the rounds, as a loop at `n + 1` has it.
-use Rattle.std.proofs.Common.{◌≡◌, ℕ, ◌+◌, ◌*◌, ◌<◌, List, [], ◌∷◌, ◌++◌, get_or, take, drop, sym, ap, ◌∙◌, add-one, arith}
+use Rattle.std.proofs.Common.{◌≡◌, ℕ, ◌+◌, ◌<◌, List, [], ◌∷◌, ◌++◌, get_or, take, sym, ap, ◌∙◌, add-one, arith}
 use Rattle.std.proofs.lemmas.List.{get_or-take}
 use Rattle.digest.specs.declared.compress.Working.{Working}
 use Rattle.digest.specs.Constants.{round_constants}
-use Rattle.digest.specs.Sha256.{next_word, grown, stepped, rounds, compressed, chained}
+use Rattle.digest.specs.Sha256.{next_word, grown, stepped, rounds}
 
 pub rounds_more : (w : List ℕ) (n : ℕ) (v : Working)
     → rounds w (n + 1) v ≡ stepped (rounds w n v) (get_or round_constants n 0) (get_or w n 0)
@@ -26,11 +26,6 @@ next_of w g n e =
     let e9 = at 9 (omega arith) in
     let e1 = at 1 (omega arith) in
     rw (e14, e9, e1, at0)
-
-pub chained_more : (s : List ℕ) (n : ℕ) (bytes : List ℕ)
-    → chained s (n + 1) bytes ≡ compressed (chained s n bytes) (take 64 (drop (64 * n) bytes))
-unfolding chained
-chained_more s n bytes = rw add-one
 
 -- a round on the working variables after the first n rounds gives those after one more
 pub round_at : {v r : Working} (w : List ℕ) (start : Working) (n : ℕ) → v ≡ rounds w n start

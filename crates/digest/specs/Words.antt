@@ -1,5 +1,5 @@
 -- Words of 32 bits and the six functions on them: FIPS 180-4, 3.2 and 4.1.2.
-use Rattle.std.specs.Prelude.{ℕ, ◌+◌, ◌-◌, ◌*◌, ◌/◌, ◌%◌, ◌^◌, List, [], ◌∷◌, bit_and, bit_or, bit_xor, slice_index}
+use Rattle.std.specs.Prelude.{ℕ, ◌+◌, ◌-◌, ◌*◌, ◌/◌, ◌%◌, ◌^◌, ◌<◌, List, [], ◌∷◌, bit_and, bit_or, bit_xor, slice_index}
 
 -- addition modulo 2^32
 abbrev pub ◌⊞◌ : ℕ → ℕ → ℕ
@@ -22,17 +22,29 @@ choice x y z = bit_xor (bit_and x y) (bit_and ((2 ^ 32 - 1) - x) z)
 unfoldable pub majority : ℕ → ℕ → ℕ → ℕ
 majority x y z = bit_xor (bit_xor (bit_and x y) (bit_and x z)) (bit_and y z)
 
+-- a rotation is by 1 to 31 places
+abbrev pub Turns : ℕ → Type 0
+Turns n = (0 < n) × (n < 32)
+
+-- three rotations
+unfoldable pub turned : ℕ → ℕ → ℕ → ℕ → ℕ
+turned a b c x = bit_xor (bit_xor (rotr a x) (rotr b x)) (rotr c x)
+
+-- two rotations and a shift
+unfoldable pub shifted : ℕ → ℕ → ℕ → ℕ → ℕ
+shifted a b c x = bit_xor (bit_xor (rotr a x) (rotr b x)) (shr c x)
+
 unfoldable pub Σ₀ : ℕ → ℕ
-Σ₀ x = bit_xor (bit_xor (rotr 2 x) (rotr 13 x)) (rotr 22 x)
+Σ₀ x = turned 2 13 22 x
 
 unfoldable pub Σ₁ : ℕ → ℕ
-Σ₁ x = bit_xor (bit_xor (rotr 6 x) (rotr 11 x)) (rotr 25 x)
+Σ₁ x = turned 6 11 25 x
 
 unfoldable pub σ₀ : ℕ → ℕ
-σ₀ x = bit_xor (bit_xor (rotr 7 x) (rotr 18 x)) (shr 3 x)
+σ₀ x = shifted 7 18 3 x
 
 unfoldable pub σ₁ : ℕ → ℕ
-σ₁ x = bit_xor (bit_xor (rotr 17 x) (rotr 19 x)) (shr 10 x)
+σ₁ x = shifted 17 19 10 x
 
 -- four bytes as a word, the first byte the highest
 abbrev pub word_at : List ℕ → ℕ → ℕ

@@ -1,6 +1,6 @@
 // The compression function of SHA-256: one block of 64 bytes into a hash value of eight words.
 ghost use Rattle.std.specs.Prelude.{◌≡◌, ℕ, ◌+◌, ◌-◌, ◌*◌, ◌/◌, ◌%◌, ◌^◌, ◌<◌, ◌≤◌, length};
-ghost use Rattle.digest.specs.Words.{choice, majority, Σ₀, Σ₁, σ₀, σ₁, word_at};
+ghost use Rattle.digest.specs.Words.{choice, majority, Turns, turned, shifted};
 ghost use Rattle.digest.specs.Sha256.{schedule as scheduled, stepped, rounds, working, compressed};
 
 use crate::constants::ROUND;
@@ -32,28 +32,20 @@ fn maj(x: u32, y: u32, z: u32) -> u32
     ((x ^ y) & (y ^ z)) ^ y
 }
 
-fn big_sigma0(x: u32) -> u32
-    ensures { result ≡ Σ₀ x }
+// The standard's Σ₀ and Σ₁, each with its three rotations.
+fn big_sigma<const A: u32, const B: u32, const C: u32>(x: u32) -> u32
+    requires { Turns A × Turns B × Turns C }
+    ensures { result ≡ turned A B C x }
 {
-    x.rotate_right(2) ^ x.rotate_right(13) ^ x.rotate_right(22)
+    x.rotate_right(A) ^ x.rotate_right(B) ^ x.rotate_right(C)
 }
 
-fn big_sigma1(x: u32) -> u32
-    ensures { result ≡ Σ₁ x }
+// The standard's σ₀ and σ₁, each with its two rotations and its shift.
+fn small_sigma<const A: u32, const B: u32, const C: u32>(x: u32) -> u32
+    requires { Turns A × Turns B × (C < 32) }
+    ensures { result ≡ shifted A B C x }
 {
-    x.rotate_right(6) ^ x.rotate_right(11) ^ x.rotate_right(25)
-}
-
-fn small_sigma0(x: u32) -> u32
-    ensures { result ≡ σ₀ x }
-{
-    x.rotate_right(7) ^ x.rotate_right(18) ^ (x >> 3)
-}
-
-fn small_sigma1(x: u32) -> u32
-    ensures { result ≡ σ₁ x }
-{
-    x.rotate_right(17) ^ x.rotate_right(19) ^ (x >> 10)
+    x.rotate_right(A) ^ x.rotate_right(B) ^ (x >> C)
 }
 
 // One round, with its constant and its word of the schedule.
@@ -62,11 +54,11 @@ fn round(v: Working, k: u32, w: u32) -> Working
 {
     let t1 = v
         .h
-        .wrapping_add(big_sigma1(v.e))
+        .wrapping_add(big_sigma::<6, 11, 25>(v.e))
         .wrapping_add(ch(v.e, v.f, v.g))
         .wrapping_add(k)
         .wrapping_add(w);
-    let t2 = big_sigma0(v.a).wrapping_add(maj(v.a, v.b, v.c));
+    let t2 = big_sigma::<2, 13, 22>(v.a).wrapping_add(maj(v.a, v.b, v.c));
     Working {
         a: t1.wrapping_add(t2),
         b: v.a,
@@ -80,26 +72,22 @@ fn round(v: Working, k: u32, w: u32) -> Working
 }
 
 // The message schedule of a block: its own 16 words, and 48 more, each from those 2, 7, 15 and 16 before it.
-fn schedule(block: &[u8]) -> [u32; 64]
-    requires { length block.now ≡ 64 }
+fn schedule(block: &[u8; 64]) -> [u32; 64]
     ensures { result ≡ scheduled block.now }
 {
-    let mut words = [0u32; 64];
-    for t in 0..16usize {
-        words[t] = u32::from_be_bytes([
-            block[4 * t],
-            block[4 * t + 1],
-            block[4 * t + 2],
-            block[4 * t + 3],
-        ]);
+    let mut words = [0; 64];
+    let (front, _) = block.as_chunks();
+    for (t, bytes) in front.iter().enumerate() {
+        words[t] = u32::from_be_bytes(*bytes);
     }
-    // eight words a turn, which the compiler lays out in a row
+    // Stays two loops, with eight words a turn, which the compiler lays out in a row: in one loop it took
+    // an eighth longer (measured).
     for i in 0..6usize {
         for j in 0..8usize {
             let n = 8 * i + j;
-            words[n + 16] = small_sigma1(words[n + 14])
+            words[n + 16] = small_sigma::<17, 19, 10>(words[n + 14])
                 .wrapping_add(words[n + 9])
-                .wrapping_add(small_sigma0(words[n + 1]))
+                .wrapping_add(small_sigma::<7, 18, 3>(words[n + 1]))
                 .wrapping_add(words[n]);
         }
     }
@@ -111,46 +99,42 @@ fn all_rounds(words: &[u32; 64], start: Working) -> Working
     ensures { result ≡ rounds words.now 64 start }
 {
     let mut v = start;
-    // eight rounds a turn, after which each variable is back in its own place
-    for i in 0..8usize {
-        let t = 8 * i;
-        v = round(v, ROUND[t], words[t]);
-        v = round(v, ROUND[t + 1], words[t + 1]);
-        v = round(v, ROUND[t + 2], words[t + 2]);
-        v = round(v, ROUND[t + 3], words[t + 3]);
-        v = round(v, ROUND[t + 4], words[t + 4]);
-        v = round(v, ROUND[t + 5], words[t + 5]);
-        v = round(v, ROUND[t + 6], words[t + 6]);
-        v = round(v, ROUND[t + 7], words[t + 7]);
+    // Stays in turns of eight rounds, after which each variable is back in its own place: one `zip` over all
+    // 64 took a quarter longer (measured).
+    let (constants, _) = ROUND.as_chunks::<8>();
+    for (i, ks) in constants.iter().enumerate() {
+        for (j, k) in ks.iter().enumerate() {
+            v = round(v, *k, words[8 * i + j]);
+        }
     }
     v
 }
 
 // The hash value after one block more.
-pub fn compress(state: &[u32; 8], block: &[u8]) -> [u32; 8]
-    requires { length block.now ≡ 64 }
+pub fn compress(state: &[u32; 8], block: &[u8; 64]) -> [u32; 8]
     ensures { result ≡ compressed state.now block.now }
 {
-    let words = schedule(block);
+    let [a, b, c, d, e, f, g, h] = *state;
     let start = Working {
-        a: state[0],
-        b: state[1],
-        c: state[2],
-        d: state[3],
-        e: state[4],
-        f: state[5],
-        g: state[6],
-        h: state[7],
+        a,
+        b,
+        c,
+        d,
+        e,
+        f,
+        g,
+        h,
     };
-    let v = all_rounds(&words, start);
+    let v = all_rounds(&schedule(block), start);
+    // Stays eight sums in a row, as the standard has them: `array::from_fn` would want the variables as a list first.
     [
-        state[0].wrapping_add(v.a),
-        state[1].wrapping_add(v.b),
-        state[2].wrapping_add(v.c),
-        state[3].wrapping_add(v.d),
-        state[4].wrapping_add(v.e),
-        state[5].wrapping_add(v.f),
-        state[6].wrapping_add(v.g),
-        state[7].wrapping_add(v.h),
+        a.wrapping_add(v.a),
+        b.wrapping_add(v.b),
+        c.wrapping_add(v.c),
+        d.wrapping_add(v.d),
+        e.wrapping_add(v.e),
+        f.wrapping_add(v.f),
+        g.wrapping_add(v.g),
+        h.wrapping_add(v.h),
     ]
 }

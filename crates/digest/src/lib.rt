@@ -8,11 +8,11 @@
 #![tactic(auto)]
 
 ghost use Rattle.std.specs.Prelude.{◌≡◌, ℕ, ◌+◌, ◌-◌, ◌*◌, ◌/◌, ◌%◌, ◌^◌, ◌<◌, ◌≤◌, ◌∷◌, ◌++◌, length, take, replicate};
-ghost use Rattle.std.specs.List.{flat_map};
+ghost use Rattle.std.specs.List.{flat_map, fold};
 ghost use Rattle.digest.specs.Words.{word_bytes};
-ghost use Rattle.digest.specs.Constants.{initial, ConstantsAreRootsOfPrimes};
-ghost use Rattle.digest.specs.Padding.{eight_bytes, PaddingIsTheStandards};
-ghost use Rattle.digest.specs.Sha256.{chained, closed, digested};
+ghost use Rattle.digest.specs.Constants.{ConstantsAreRootsOfPrimes};
+ghost use Rattle.digest.specs.Padding.{zeros_after, padding, PaddingIsTheStandards};
+ghost use Rattle.digest.specs.Sha256.{compressed, closed, digested};
 
 use compress::compress;
 use constants::INITIAL;
@@ -27,24 +27,24 @@ pub const LONGEST: usize = 4096;
 // The bytes of a block.
 const BLOCK: usize = 64;
 
-// The hash value after the whole blocks of the input.
-fn whole_blocks(input: &[u8]) -> [u32; 8]
-    ensures { result ≡ chained initial (length input.now / 64) input.now }
+// The hash value after more blocks.
+fn after_blocks(state: &[u32; 8], blocks: &[[u8; BLOCK]]) -> [u32; 8]
+    ensures { result ≡ fold compressed state.now blocks.now }
 {
-    let mut state = INITIAL;
-    for i in 0..input.len() / BLOCK {
-        state = compress(&state, &input[BLOCK * i..BLOCK * i + BLOCK]);
+    let mut now = *state;
+    for block in blocks {
+        now = compress(&now, block);
     }
-    state
+    now
 }
 
 // Writes the end of the padded message over zeros: the bytes after the last whole block, the bit 1, zeros,
 // and the number of the message's bits.
 fn write_tail(tail: &mut [u8], rest: &[u8], total: usize)
     requires blank { tail.old ≡ replicate (length tail.old) 0 }
-    requires fits { length rest.now + 9 ≤ length tail.old }
+    requires room { length tail.old ≡ length rest.now + (zeros_after total + 9) }
     requires few { total ≤ 4096 }
-    ensures { tail.new ≡ rest.now ++ (0x80 ∷ (replicate (length tail.old - 9 - length rest.now) 0 ++ eight_bytes (8 * total))) }
+    ensures { tail.new ≡ rest.now ++ padding total }
 {
     let end = tail.len();
     let len = rest.len();
@@ -62,38 +62,36 @@ fn last_blocks(state: &[u32; 8], rest: &[u8], total: usize) -> [u32; 8]
     ensures { result ≡ closed state.now rest.now total }
 {
     // the bit 1 and the length take nine bytes
-    if rest.len() + 9 <= BLOCK {
-        let mut tail = [0u8; BLOCK];
-        write_tail(&mut tail, rest, total);
-        return compress(state, &tail);
-    }
-    let mut tail = [0u8; 2 * BLOCK];
-    write_tail(&mut tail, rest, total);
-    let first = compress(state, &tail[0..BLOCK]);
-    compress(&first, &tail[BLOCK..2 * BLOCK])
+    let end = if rest.len() + 9 <= BLOCK {
+        BLOCK
+    } else {
+        2 * BLOCK
+    };
+    let mut buffer = [0; 2 * BLOCK];
+    let tail = &mut buffer[..end];
+    write_tail(tail, rest, total);
+    let (blocks, _) = tail.as_chunks();
+    after_blocks(state, blocks)
 }
 
 // The hash value as bytes.
 fn bytes_of(state: &[u32; 8]) -> [u8; 32]
     ensures { result ≡ flat_map word_bytes state.now }
 {
-    let mut out = [0u8; 32];
-    for i in 0..8usize {
-        out[4 * i..4 * i + 4].copy_from_slice(&state[i].to_be_bytes());
-    }
-    out
+    let bytes = state.map(u32::to_be_bytes);
+    *bytes.as_flattened().as_array().unwrap()
 }
 
 // The digest of the input; an input above `LONGEST` is refused as a wrong length.
 pub fn digest(input: &[u8]) -> Result<[u8; 32], WireFault>
     ensures { result ≡ digested input.now }
 {
-    let total = input.len();
-    if total > LONGEST {
+    if input.len() > LONGEST {
         return Err(WireFault::WrongLength);
     }
-    let state = whole_blocks(input);
-    let state = last_blocks(&state, &input[total - total % BLOCK..total], total);
+    let (blocks, rest) = input.as_chunks();
+    let state = after_blocks(&INITIAL, blocks);
+    let state = last_blocks(&state, rest, input.len());
     Ok(bytes_of(&state))
 }
 

@@ -1,5 +1,7 @@
-use Rattle.std.proofs.Common.{◌≡◌, ℕ, ◌+◌, ◌*◌, refl, ap, ◌∙◌, arith}
-use Rattle.digest.specs.Sha256.{rounds}
+use Rattle.std.proofs.Common.{◌≡◌, ℕ, ◌+◌, ◌*◌, List, [], get_or, refl, ap, ◌∙◌, arith}
+use Rattle.digest.specs.Constants.{round_constants}
+use Rattle.digest.specs.Sha256.{rounds, stepped}
+use Rattle.digest.proofs.Chunks.{chunk_at, in_chunk}
 use Rattle.digest.proofs.Steps.{round_at}
 use Rattle.digest.proofs.compress.all_rounds.Goals as goal
 
@@ -7,19 +9,27 @@ pub loop-i-init : goal.loop-i-init
 unfolding rounds
 loop-i-init c = refl
 
+pub loop-j-init : goal.loop-j-init
+loop-j-init c =
+    let first : 8 * c.loop-i.i ≡ 8 * c.loop-i.i + 0 = omega arith in
+    c.loop-i.invariant ∙ ap (λ (n : ℕ). rounds c.args.words.now n c.args.start) first
+
+pub loop-j-preserved : goal.loop-j-preserved
+loop-j-preserved c =
+    let w = c.args.words.now in
+    let i = c.loop-i.i in
+    let j = c.loop-j.j in
+    let n = 8 * i + j in
+    let ks = get_or c.as_chunks.result.0.now i [] in
+    let chunk = ap (λ (cs : List (List ℕ)). get_or cs i []) c.as_chunks.ensures.front ∙ chunk_at 8 8 round_constants [] i (omega arith) in
+    let k : get_or ks j 0 ≡ get_or round_constants n 0 = in_chunk 8 round_constants ks i j chunk (omega arith) in
+    let step = c.round-v.ensures ∙ ap (λ (k : ℕ). stepped c.loop-j.v k (get_or w n 0)) k in
+    round_at w c.args.start n c.loop-j.invariant step (8 * i + (j + 1)) (omega arith)
+
 pub loop-i-preserved : goal.loop-i-preserved
 loop-i-preserved c =
-    let w = c.args.words.now in
-    let start = c.args.start in
-    let t = 8 * c.loop-i.i in
-    let v1 = round_at w start t c.loop-i.invariant c.round-v.ensures (t + 1) (omega arith) in
-    let v2 = round_at w start (t + 1) v1 c.round-v-in-loop-i.ensures (t + 2) (omega arith) in
-    let v3 = round_at w start (t + 2) v2 c.round-v-in-loop-i-2.ensures (t + 3) (omega arith) in
-    let v4 = round_at w start (t + 3) v3 c.round-v-in-loop-i-3.ensures (t + 4) (omega arith) in
-    let v5 = round_at w start (t + 4) v4 c.round-v-in-loop-i-4.ensures (t + 5) (omega arith) in
-    let v6 = round_at w start (t + 5) v5 c.round-v-in-loop-i-5.ensures (t + 6) (omega arith) in
-    let v7 = round_at w start (t + 6) v6 c.round-v-in-loop-i-6.ensures (t + 7) (omega arith) in
-    round_at w start (t + 7) v7 c.round-v-in-loop-i-7.ensures (8 * (c.loop-i.i + 1)) (omega arith)
+    let end : 8 * c.loop-i.i + c.loop-j.j ≡ 8 * (c.loop-i.i + 1) = omega arith in
+    c.loop-j.invariant ∙ ap (λ (n : ℕ). rounds c.args.words.now n c.args.start) end
 
 pub returns : goal.returns
 returns c =

@@ -1,7 +1,7 @@
-use Rattle.std.proofs.Common.{rules}
+use Rattle.digest.specs.Words.{Σ₀, Σ₁}
 use Rattle.digest.specs.Sha256.{stepped}
 use Rattle.digest.proofs.compress.round.Goals as goal
 
 pub returns : goal.returns
-unfolding stepped
-returns c = search rules
+unfolding stepped Σ₀ Σ₁
+returns c = cc

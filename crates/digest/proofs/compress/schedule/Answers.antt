@@ -1,9 +1,10 @@
-use Rattle.std.proofs.Common.{◌≡◌, ℕ, ◌+◌, ◌*◌, ◌<◌, map, length, take, sym, ap, ◌∙◌, arith}
+use Rattle.std.proofs.Common.{◌≡◌, ℕ, ◌+◌, ◌*◌, ◌/◌, ◌<◌, List, [], get_or, map, length, take, sym, ap, ◌∙◌, arith}
 use Rattle.std.specs.List.{range_with_len}
 use Rattle.std.proofs.lemmas.List.{take_more_set, length-set, take_all}
 use Rattle.std.proofs.lemmas.List.FromFn.{map-range_with_len_more}
-use Rattle.digest.specs.Words.{word_at}
+use Rattle.digest.specs.Words.{word_at, σ₀, σ₁}
 use Rattle.digest.specs.Sha256.{grown, block_words, next_word}
+use Rattle.digest.proofs.Chunks.{chunk_at, word_of}
 use Rattle.digest.proofs.Steps.{grown_more, next_of}
 use Rattle.digest.proofs.compress.schedule.Goals as goal
 
@@ -14,6 +15,8 @@ loop-t-preserved c =
     let w = c.loop-t.words in
     let y = word_at block (4 * t) in
     let inside : t < length w = omega arith in
+    let chunk = ap (λ (cs : List (List ℕ)). get_or cs t []) c.as_chunks.ensures.front ∙ chunk_at 4 (length block / 4) block [] t (omega arith) in
+    let word : c.from_be_bytes.result ≡ y = c.from_be_bytes.ensures ∙ word_of block _ t chunk in
     let e = take_more_set w t y inside in
     let f = map-range_with_len_more (λ k. word_at block (4 * k)) 0 t t (omega arith) in
     let i = c.loop-t.invariant.0 in
@@ -29,6 +32,7 @@ loop-i-init c =
     )
 
 pub loop-j-preserved : goal.loop-j-preserved
+unfolding σ₀ σ₁
 loop-j-preserved c =
     let block = c.args.block.now in
     let n = 8 * c.loop-i.i + c.loop-j.j in
