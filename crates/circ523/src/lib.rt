@@ -6,7 +6,6 @@
 #![tactic(auto)]
 
 ghost use Rattle.std.specs.Prelude.{◌≡◌};
-ghost use Rattle.circ523.specs.Elements.{order};
 ghost use Rattle.circ523.specs.Kind.{points};
 ghost use Rattle.circ523.specs.Worked.{CircleGroup, Worked};
 
@@ -20,17 +19,12 @@ pub mod point;
 
 pub use point::Point;
 
-// The order, 131, is prime.
-fn order() -> Order<131>
-    ensures { result ≡ order }
-{
-    Order {}
-}
-
 impl Group for Point {
     type Scalar = Scalar<131>;
 
     type NonZero = NonZero<131>;
+
+    type Order = Order<131>;
 
     ghost model = { points };
 
@@ -42,12 +36,13 @@ impl Group for Point {
         b"circ523"
     }
 
-    fn element_width() -> usize {
-        4
+    // The order, 131, is prime.
+    fn order() -> Order<131> {
+        Order {}
     }
 
-    fn scalar_width() -> usize {
-        order().width()
+    fn element_width() -> usize {
+        4
     }
 
     fn null() -> Point {
@@ -79,7 +74,7 @@ impl Group for Point {
     }
 
     fn same(self, other: Point) -> bool {
-        self.pair == other.pair
+        self == other
     }
 
     fn encode(self) -> Code {
@@ -87,13 +82,12 @@ impl Group for Point {
     }
 
     fn decode(bytes: &[u8]) -> Result<Point, GroupFault> {
-        let [x_high, x_low, y_high, y_low] = bytes else {
+        let [x_high, x_low, y_high, y_low] = *bytes else {
             return Err(GroupFault::NoElement);
         };
-        let pair = Pair {
-            x: *x_high as u16 * 256 + *x_low as u16,
-            y: *y_high as u16 * 256 + *y_low as u16,
-        };
+        let x = u16::from_be_bytes([x_high, x_low]);
+        let y = u16::from_be_bytes([y_high, y_low]);
+        let pair = Pair { x, y };
         if pair.is_member() {
             Ok(Point { pair })
         } else {
@@ -105,50 +99,6 @@ impl Group for Point {
         Point {
             pair: mapped(leading_word(bytes)),
         }
-    }
-
-    fn add(s: Scalar<131>, t: Scalar<131>) -> Scalar<131> {
-        order().sum(s, t)
-    }
-
-    fn subtract(s: Scalar<131>, t: Scalar<131>) -> Scalar<131> {
-        order().difference(s, t)
-    }
-
-    fn multiply(s: Scalar<131>, t: Scalar<131>) -> Scalar<131> {
-        order().product(s, t)
-    }
-
-    fn invert(s: Scalar<131>) -> Scalar<131> {
-        order().inverse(s)
-    }
-
-    fn bit(s: Scalar<131>, place: u32) -> bool {
-        order().bit(s, place)
-    }
-
-    fn same_scalar(s: Scalar<131>, t: Scalar<131>) -> bool {
-        order().same(s, t)
-    }
-
-    fn encode_scalar(s: Scalar<131>) -> Code {
-        order().encode(s)
-    }
-
-    fn decode_scalar(bytes: &[u8]) -> Result<Scalar<131>, GroupFault> {
-        order().decode(bytes)
-    }
-
-    fn reduce(bytes: &[u8; 32]) -> Scalar<131> {
-        order().reduce(bytes)
-    }
-
-    fn nonzero(s: Scalar<131>) -> Result<NonZero<131>, GroupFault> {
-        order().nonzero(s)
-    }
-
-    fn scalar_of(k: NonZero<131>) -> Scalar<131> {
-        order().part(k)
     }
 }
 

@@ -3,7 +3,7 @@ ghost use Rattle.circle.specs.Circle.{Member};
 
 use circle::Pair;
 
-#[derive(Clone, Copy)]
+#[derive(Clone, Copy, PartialEq, Eq)]
 pub struct Point {
     pub pair: Pair,
     ghost member: { Member pair },

@@ -12,7 +12,7 @@ ghost use Rattle.scalar.specs.Inverse.{inverse_number};
 ghost use Rattle.circle.specs.Circle.{plus, times, opposite, OnCircle, Member, slope_point, mapped_pair};
 ghost use Rattle.circle.specs.Laws.{CircleLaws};
 
-use scalar::{Order, Scalar};
+use scalar::{Order, Reckoner, Scalar};
 
 // The modulus, a prime, and the number that stands for -1: with it no difference is ever below zero.
 const P: u64 = 523;

@@ -21,14 +21,17 @@ ghost use Rattle.group.specs.Theorems.{Lawful, Unblinds, OneScalar, Weighs};
 
 use faults::{GroupFault, WireFault};
 use numbers::Code;
+use scalar::Reckoner;
 
 // A kind of group. The type itself is the type of its elements: every element that exists lies in the
 // group, by the type's invariant, and nothing above checks it again.
 pub trait Group: Copy {
-    // Its scalars, and those that are known not to be zero.
+    // Its scalars, those that are known not to be zero, and what reckons with them.
     type Scalar: Copy;
 
     type NonZero: Copy;
+
+    type Order: Reckoner<Scalar = Self::Scalar, NonZero = Self::NonZero>;
 
     // What the kind means, with the laws that it keeps.
     ghost model: { Model Self Self.Scalar Self.NonZero };
@@ -41,14 +44,14 @@ pub trait Group: Copy {
     fn name() -> &'static [u8]
         ensures { result.now ≡ model.name };
 
-    // How many bytes the code of an element has, and that of a scalar.
+    // The reckoning with its scalars.
+    fn order() -> Self::Order
+        ensures { Self.Order.scalars result ≡ model.scalars };
+
+    // Elements, and how many bytes the code of one has.
     fn element_width() -> usize
         ensures { result ≡ model.element_width };
 
-    fn scalar_width() -> usize
-        ensures { result ≡ model.scalars.width };
-
-    // Elements.
     fn null() -> Self
         ensures { result ≡ null model };
 
@@ -76,40 +79,79 @@ pub trait Group: Copy {
     fn map(bytes: &[u8; 32]) -> Self
         ensures { result ≡ model.map bytes.now };
 
-    // Scalars.
-    fn add(s: Self::Scalar, t: Self::Scalar) -> Self::Scalar
-        ensures { result ≡ added model.scalars s t };
+    // Scalars, and how many bytes the code of one has: written here once, over the reckoning.
+    final fn scalar_width() -> usize
+        ensures { result ≡ model.scalars.width }
+    {
+        Self::order().width()
+    }
 
-    fn subtract(s: Self::Scalar, t: Self::Scalar) -> Self::Scalar
-        ensures { result ≡ subtracted model.scalars s t };
+    final fn add(s: Self::Scalar, t: Self::Scalar) -> Self::Scalar
+        ensures { result ≡ added model.scalars s t }
+    {
+        Self::order().sum(s, t)
+    }
 
-    fn multiply(s: Self::Scalar, t: Self::Scalar) -> Self::Scalar
-        ensures { result ≡ multiplied model.scalars s t };
+    final fn subtract(s: Self::Scalar, t: Self::Scalar) -> Self::Scalar
+        ensures { result ≡ subtracted model.scalars s t }
+    {
+        Self::order().difference(s, t)
+    }
 
-    fn invert(s: Self::Scalar) -> Self::Scalar
-        ensures { result ≡ model.scalars.inverse s };
+    final fn multiply(s: Self::Scalar, t: Self::Scalar) -> Self::Scalar
+        ensures { result ≡ multiplied model.scalars s t }
+    {
+        Self::order().product(s, t)
+    }
 
-    fn bit(s: Self::Scalar, place: u32) -> bool
-        ensures { result ≡ bit_at model.scalars s place };
+    final fn invert(s: Self::Scalar) -> Self::Scalar
+        ensures { result ≡ model.scalars.inverse s }
+    {
+        Self::order().inverse(s)
+    }
 
-    fn same_scalar(s: Self::Scalar, t: Self::Scalar) -> bool
-        ensures { Decides result (s ≡ t) };
+    final fn bit(s: Self::Scalar, place: u32) -> bool
+        ensures { result ≡ bit_at model.scalars s place }
+    {
+        Self::order().bit(s, place)
+    }
 
-    fn encode_scalar(s: Self::Scalar) -> Code
-        ensures { code_bytes result ≡ scalar_code model.scalars s };
+    final fn same_scalar(s: Self::Scalar, t: Self::Scalar) -> bool
+        ensures { Decides result (s ≡ t) }
+    {
+        Self::order().same(s, t)
+    }
 
-    fn decode_scalar(bytes: &[u8]) -> Result<Self::Scalar, GroupFault>
-        ensures { result ≡ ok_or (scalar_of model.scalars bytes.now) GroupFault.NoScalar };
+    final fn encode_scalar(s: Self::Scalar) -> Code
+        ensures { code_bytes result ≡ scalar_code model.scalars s }
+    {
+        Self::order().encode(s)
+    }
 
-    fn reduce(bytes: &[u8; 32]) -> Self::Scalar
-        ensures { result ≡ reduced model.scalars bytes.now };
+    final fn decode_scalar(bytes: &[u8]) -> Result<Self::Scalar, GroupFault>
+        ensures { result ≡ ok_or (scalar_of model.scalars bytes.now) GroupFault.NoScalar }
+    {
+        Self::order().decode(bytes)
+    }
+
+    final fn reduce(bytes: &[u8; 32]) -> Self::Scalar
+        ensures { result ≡ reduced model.scalars bytes.now }
+    {
+        Self::order().reduce(bytes)
+    }
 
     // A scalar as one that is not zero, and back.
-    fn nonzero(s: Self::Scalar) -> Result<Self::NonZero, GroupFault>
-        ensures { result ≡ ok_or (model.scalars.nonzero s) GroupFault.NoScalar };
+    final fn nonzero(s: Self::Scalar) -> Result<Self::NonZero, GroupFault>
+        ensures { result ≡ ok_or (model.scalars.nonzero s) GroupFault.NoScalar }
+    {
+        Self::order().nonzero(s)
+    }
 
-    fn scalar_of(k: Self::NonZero) -> Self::Scalar
-        ensures { result ≡ model.scalars.part k };
+    final fn scalar_of(k: Self::NonZero) -> Self::Scalar
+        ensures { result ≡ model.scalars.part k }
+    {
+        Self::order().part(k)
+    }
 }
 
 // s times p, by doubling, from the highest bit of s down.

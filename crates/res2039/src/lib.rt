@@ -7,7 +7,6 @@
 
 ghost use Rattle.std.specs.Prelude.{◌≡◌, ℕ, ◌+◌, ◌-◌, ◌*◌, ◌/◌, ◌%◌, ◌^◌, ◌<◌, ◌≤◌, List, [], ◌∷◌};
 ghost use Rattle.res2039.specs.Kind.{residues};
-ghost use Rattle.res2039.specs.Laws.{order};
 ghost use Rattle.res2039.specs.Worked.{Worked};
 
 use faults::GroupFault;
@@ -20,13 +19,6 @@ pub mod residue;
 
 use powers::powers_of_four;
 pub use residue::Residue;
-
-// The order, 1019, is prime.
-fn order() -> Order<1019>
-    ensures { result ≡ order }
-{
-    Order {}
-}
 
 // The power k of 4.
 fn power_of_four(k: u16) -> u16
@@ -59,6 +51,8 @@ impl Group for Residue {
 
     type NonZero = NonZero<1019>;
 
+    type Order = Order<1019>;
+
     ghost model = { residues };
 
     fn kind() -> u16 {
@@ -69,12 +63,13 @@ impl Group for Residue {
         b"res2039"
     }
 
-    fn element_width() -> usize {
-        2
+    // The order, 1019, is prime.
+    fn order() -> Order<1019> {
+        Order {}
     }
 
-    fn scalar_width() -> usize {
-        order().width()
+    fn element_width() -> usize {
+        2
     }
 
     fn null() -> Residue {
@@ -104,7 +99,7 @@ impl Group for Residue {
     }
 
     fn same(self, other: Residue) -> bool {
-        self.value == other.value
+        self == other
     }
 
     fn encode(self) -> Code {
@@ -112,10 +107,10 @@ impl Group for Residue {
     }
 
     fn decode(bytes: &[u8]) -> Result<Residue, GroupFault> {
-        let [high, low] = bytes else {
+        let [high, low] = *bytes else {
             return Err(GroupFault::NoElement);
         };
-        let value = *high as u16 * 256 + *low as u16;
+        let value = u16::from_be_bytes([high, low]);
         if value < 2039 && raised(value, 1019) == 1 {
             Ok(Residue { value })
         } else {
@@ -128,50 +123,6 @@ impl Group for Residue {
         Residue {
             value: (w * w % 2039) as u16,
         }
-    }
-
-    fn add(s: Scalar<1019>, t: Scalar<1019>) -> Scalar<1019> {
-        order().sum(s, t)
-    }
-
-    fn subtract(s: Scalar<1019>, t: Scalar<1019>) -> Scalar<1019> {
-        order().difference(s, t)
-    }
-
-    fn multiply(s: Scalar<1019>, t: Scalar<1019>) -> Scalar<1019> {
-        order().product(s, t)
-    }
-
-    fn invert(s: Scalar<1019>) -> Scalar<1019> {
-        order().inverse(s)
-    }
-
-    fn bit(s: Scalar<1019>, place: u32) -> bool {
-        order().bit(s, place)
-    }
-
-    fn same_scalar(s: Scalar<1019>, t: Scalar<1019>) -> bool {
-        order().same(s, t)
-    }
-
-    fn encode_scalar(s: Scalar<1019>) -> Code {
-        order().encode(s)
-    }
-
-    fn decode_scalar(bytes: &[u8]) -> Result<Scalar<1019>, GroupFault> {
-        order().decode(bytes)
-    }
-
-    fn reduce(bytes: &[u8; 32]) -> Scalar<1019> {
-        order().reduce(bytes)
-    }
-
-    fn nonzero(s: Scalar<1019>) -> Result<NonZero<1019>, GroupFault> {
-        order().nonzero(s)
-    }
-
-    fn scalar_of(k: NonZero<1019>) -> Scalar<1019> {
-        order().part(k)
     }
 }
 

@@ -3,7 +3,7 @@ ghost use Rattle.std.specs.Prelude.{◌<◌};
 
 use crate::modular::Scalar;
 
-#[derive(Clone, Copy)]
+#[derive(Clone, Copy, PartialEq, Eq)]
 pub struct NonZero<const Q: u16> {
     pub scalar: Scalar<Q>,
     ghost positive: { 0 < scalar.value },

@@ -1,6 +1,6 @@
 use Rattle.std.proofs.Common.{refl}
 use Rattle.scalar.specs.Modulo.{modulo}
-use Rattle.scalar.proofs.order.Order.part.Goals as goal
+use Rattle.scalar.proofs.OrderReckoner.part.Goals as goal
 
 pub returns : goal.returns
 unfolding modulo

@@ -1,11 +1,12 @@
-use Rattle.std.proofs.Common.{lit<, lit≤}
+use Rattle.std.proofs.Common.{ap, lit<, lit≤}
 use Rattle.scalar.specs.Laws.{one_order}
+use Rattle.scalar.specs.Modulo.{modulo}
 use Rattle.res2039.specs.Powers2039.{order_prime}
 use Rattle.res2039.specs.Laws.{order}
-use Rattle.res2039.proofs.order.Goals as goal
+use Rattle.res2039.proofs.ResidueGroup.order.Goals as goal
 
 pub invariant_of-result : goal.invariant_of-result
 invariant_of-result c = record { low = lit≤ tt; high = lit< tt; prime = order_prime }
 
 pub returns : goal.returns
-returns c = one_order _ order
+returns c = ap modulo (one_order _ order)

@@ -2,7 +2,7 @@ use Rattle.std.proofs.Common.{refl, ◌∙◌, arith}
 use Rattle.scalar.specs.Modulo.{modulo}
 use Rattle.scalar.specs.Scalars.{bit_at}
 use Rattle.scalar.proofs.Meets.{bit_past}
-use Rattle.scalar.proofs.order.Order.bit.Goals as goal
+use Rattle.scalar.proofs.OrderReckoner.bit.Goals as goal
 use Rattle.std.proofs.lemmas.Bool.{le-ltb}
 
 pub returns-then-place-lt16 : goal.returns-then-place-lt16

@@ -1,7 +1,7 @@
 use Rattle.std.proofs.Common.{ℕ, ◌%◌, ap}
 use Rattle.scalar.specs.Scalars.{reduced}
 use Rattle.scalar.proofs.Meets.{by_value}
-use Rattle.scalar.proofs.order.Order.reduce.Goals as goal
+use Rattle.scalar.proofs.OrderReckoner.reduce.Goals as goal
 
 pub returns : goal.returns
 unfolding reduced

@@ -1,6 +1,6 @@
 use Rattle.std.proofs.Common.{◌≡◌, ℕ, ◌%◌, ◌<◌, ap, ◌∙◌, mod-lt, mod-eq_of_lt, mul-one, arith}
 use Rattle.scalar.proofs.Meets.{zero_inverse, one_inverse}
-use Rattle.scalar.proofs.order.Order.inverse.Goals as goal
+use Rattle.scalar.proofs.OrderReckoner.inverse.Goals as goal
 use Rattle.numbers.proofs.Mod.{nearer, positive}
 
 pub returns-then-s-eq0 : goal.returns-then-s-eq0

@@ -1,6 +1,6 @@
 use Rattle.scalar.specs.Modulo.{modulo}
 use Rattle.scalar.specs.Scalars.{multiplied}
-use Rattle.scalar.proofs.order.Order.product.Goals as goal
+use Rattle.scalar.proofs.OrderReckoner.product.Goals as goal
 
 pub returns : goal.returns
 unfolding multiplied modulo

@@ -1,6 +1,6 @@
 use Rattle.scalar.specs.Modulo.{modulo}
 use Rattle.scalar.specs.Scalars.{subtracted}
-use Rattle.scalar.proofs.order.Order.difference.Goals as goal
+use Rattle.scalar.proofs.OrderReckoner.difference.Goals as goal
 
 pub returns : goal.returns
 unfolding subtracted modulo

@@ -1,7 +1,7 @@
 use Rattle.std.proofs.Common.{sym, arith}
 use Rattle.scalar.specs.Modulo.{modulo}
 use Rattle.scalar.proofs.Meets.{width_one, width_two}
-use Rattle.scalar.proofs.order.Order.width.Goals as goal
+use Rattle.scalar.proofs.OrderReckoner.width.Goals as goal
 
 pub returns-then-this-le256 : goal.returns-then-this-le256
 unfolding modulo

@@ -1,6 +1,6 @@
 use Rattle.scalar.specs.Modulo.{modulo}
 use Rattle.scalar.specs.Scalars.{added}
-use Rattle.scalar.proofs.order.Order.sum.Goals as goal
+use Rattle.scalar.proofs.OrderReckoner.sum.Goals as goal
 
 pub returns : goal.returns
 unfolding added modulo
