@@ -1,5 +1,5 @@
 -- One write after another.
-use Rattle.std.proofs.Common.{◌≡◌, ℕ, ◌+◌, ◌-◌, List, ◌++◌, take, drop, sym, ap, ◌∙◌, subst, append_assoc, arith}
+use Rattle.std.proofs.Common.{◌≡◌, ℕ, ◌+◌, ◌-◌, List, ◌++◌, take, drop, sym, ap, ◌∙◌, append_assoc, arith}
 use Rattle.std.proofs.lemmas.List.{length-append, drop-drop}
 use Rattle.hashing.specs.Appending.{Appended}
 
@@ -13,10 +13,3 @@ and_then {a} {b} {c} {at} {mid} {end} {p} {q} one two = record {
       λ l. ap (λ (n : ℕ). drop n l) (sym further) ∙ sym (drop-drop (end - mid) mid l) in
       two.rest ∙ past b ∙ ap (drop (end - mid)) one.rest ∙ sym (past a);
 }
-
--- the bytes from the front on
-pub whole : {a b : List ℕ} {end : ℕ} {p : List ℕ} → Appended a b 0 end p → take end b ≡ p
-whole one = one.front
-
-pub same_part : {a b : List ℕ} {at end : ℕ} {p q : List ℕ} → p ≡ q → Appended a b at end p → Appended a b at end q
-same_part {a} {b} {at} {end} e one = subst (λ (l : List ℕ). Appended a b at end l) e one

@@ -9,11 +9,13 @@
 
 ghost use Rattle.std.specs.Prelude.{◌≡◌, ℕ, ◌+◌, ◌-◌, ◌*◌, ◌/◌, ◌%◌, ◌^◌, ◌<◌, ◌≤◌, ◌++◌, length, take, codes};
 ghost use Rattle.digest.specs.Sha256.{sha256};
+ghost use Rattle.numbers.specs.Writing.{put_so_far, room, Put};
 ghost use Rattle.hashing.specs.Appending.{Appended};
 ghost use Rattle.hashing.specs.Hashing.{context_string, framed_code, tagged, hash_to_scalar as scalar_hash, hash_to_group as group_hash, framed, key_id as id_of, authenticator as authentic};
 
 use digest::digest;
 use group::Group;
+use numbers::writer::Writer;
 
 // Copies the part to the place `at`, and answers where it ends.
 pub fn put(bytes: &mut [u8], at: usize, part: &[u8]) -> usize
@@ -30,63 +32,64 @@ pub fn hash(bytes: &[u8]) -> [u8; 32]
     requires { length bytes.now ≤ 4096 }
     ensures { result ≡ sha256 bytes.now }
 {
-    match digest(bytes) {
-        Ok(d) => d,
-        Err(_) => unreachable(),
-    }
+    digest(bytes).unwrap()
 }
 
 // The context string: which protocol, which group, which digest.
-pub fn put_context<G: Group>(bytes: &mut [u8], at: usize) -> usize
-    requires { at + 31 ≤ length bytes.old }
-    ensures appended { Appended bytes.old bytes.new at result (context_string G.model) }
-    ensures bound { (at ≤ result) × (result ≤ at + 31) }
+pub fn put_context<G: Group>(transcript: &mut Writer<'_>)
+    requires { transcript.old.len + 31 ≤ room transcript.old }
+    ensures put { Put transcript.old transcript.new (context_string G.model) }
+    ensures len { (transcript.old.len ≤ transcript.new.len) × (transcript.new.len ≤ transcript.old.len + 31) }
 {
-    let at = put(bytes, at, b"BBTV4-");
-    let at = put(bytes, at, b"\x01-");
-    let at = put(bytes, at, G::name());
-    put(bytes, at, b"-SHA256")
+    transcript.put(b"BBTV4-");
+    transcript.put(b"\x01-");
+    transcript.put(G::name());
+    transcript.put(b"-SHA256");
 }
 
 // A code with its length in front.
-pub fn put_framed<G: Group>(bytes: &mut [u8], at: usize, code: &[u8]) -> usize
-    requires { at + 2 + length code.now ≤ length bytes.old }
-    ensures appended { Appended bytes.old bytes.new at result (framed_code G.model code.now) }
-    ensures bound { result ≡ at + 2 + length code.now }
+pub fn put_framed<G: Group>(transcript: &mut Writer<'_>, code: &[u8])
+    requires { transcript.old.len + 2 + length code.now ≤ room transcript.old }
+    ensures put { Put transcript.old transcript.new (framed_code G.model code.now) }
+    ensures len { transcript.new.len ≡ transcript.old.len + 2 + length code.now }
 {
-    let at = put(bytes, at, &(G::element_width() as u16).to_be_bytes());
-    put(bytes, at, code)
+    transcript.put(&(G::element_width() as u16).to_be_bytes());
+    transcript.put(code);
 }
 
 // An element, as its code with its length in front.
-pub fn put_element<G: Group>(bytes: &mut [u8], at: usize, p: G) -> usize
-    requires { at + 10 ≤ length bytes.old }
-    ensures appended { Appended bytes.old bytes.new at result (framed G.model p) }
-    ensures bound { (at ≤ result) × (result ≤ at + 10) }
+pub fn put_element<G: Group>(transcript: &mut Writer<'_>, p: G)
+    requires { transcript.old.len + 10 ≤ room transcript.old }
+    ensures put { Put transcript.old transcript.new (framed G.model p) }
+    ensures len { (transcript.old.len ≤ transcript.new.len) × (transcript.new.len ≤ transcript.old.len + 10) }
 {
-    put_framed::<G>(bytes, at, p.encode().as_slice())
+    put_framed::<G>(transcript, p.encode().as_slice());
 }
 
-// The digest of the first `len` bytes under a label.
-fn hash_tagged<G: Group>(bytes: &mut [u8], len: usize, label: &[u8]) -> [u8; 32]
-    requires room { len + 45 ≤ length bytes.old }
-    requires few { len ≤ 4000 }
+// The digest of what was put, under a label.
+fn hash_tagged<G: Group>(transcript: &mut Writer<'_>, label: &[u8]) -> [u8; 32]
+    requires room { transcript.old.len + 45 ≤ room transcript.old }
+    requires few { transcript.old.len ≤ 4000 }
     requires label { length label.now ≤ 13 }
-    ensures { result ≡ sha256 (tagged G.model label.now (take len bytes.old)) }
+    ensures hash { result ≡ sha256 (tagged G.model label.now (put_so_far transcript.old)) }
+    ensures lent { transcript.new.bytes.ghost_name ≡ transcript.old.bytes.ghost_name }
 {
-    let at = put(bytes, len, label);
-    let at = put_context::<G>(bytes, at);
-    let end = put(bytes, at, &[(at - len) as u8]);
-    hash(&bytes[0..end])
+    let message = transcript.as_slice().len();
+    transcript.put(label);
+    put_context::<G>(transcript);
+    let added = transcript.as_slice().len() - message;
+    transcript.put(&[added as u8]);
+    hash(transcript.as_slice())
 }
 
-// The first `len` bytes, hashed to a scalar.
-pub fn hash_to_scalar<G: Group>(bytes: &mut [u8], len: usize) -> G::Scalar
-    requires room { len + 45 ≤ length bytes.old }
-    requires few { len ≤ 4000 }
-    ensures { result ≡ scalar_hash G.model (take len bytes.old) }
+// What was put, hashed to a scalar.
+pub fn hash_to_scalar<G: Group>(transcript: &mut Writer<'_>) -> G::Scalar
+    requires room { transcript.old.len + 45 ≤ room transcript.old }
+    requires few { transcript.old.len ≤ 4000 }
+    ensures hash { result ≡ scalar_hash G.model (put_so_far transcript.old) }
+    ensures lent { transcript.new.bytes.ghost_name ≡ transcript.old.bytes.ghost_name }
 {
-    G::reduce(&hash_tagged::<G>(bytes, len, b"HashToScalar-"))
+    G::reduce(&hash_tagged::<G>(transcript, b"HashToScalar-"))
 }
 
 // An input, hashed to an element.
@@ -95,8 +98,9 @@ pub fn hash_to_group<G: Group>(bytes: &mut [u8], input: &[u8]) -> G
     requires few { length input.now ≤ 4000 }
     ensures { result ≡ group_hash G.model input.now }
 {
-    let len = put(bytes, 0, input);
-    G::map(&hash_tagged::<G>(bytes, len, b"HashToGroup-"))
+    let mut transcript = Writer::new(bytes);
+    transcript.put(input);
+    G::map(&hash_tagged::<G>(&mut transcript, b"HashToGroup-"))
 }
 
 // What stands for a public key in a token.
@@ -112,9 +116,10 @@ pub fn authenticator<G: Group>(bytes: &mut [u8], input: &[u8], u: G) -> [u8; 32]
     requires few { length input.now ≤ 4000 }
     ensures { result ≡ authentic G.model input.now u }
 {
-    let at = put(bytes, 0, &(input.len() as u16).to_be_bytes());
-    let at = put(bytes, at, input);
-    let at = put_element(bytes, at, u);
-    let end = put(bytes, at, b"Finalize");
-    hash(&bytes[0..end])
+    let mut transcript = Writer::new(bytes);
+    transcript.put(&(input.len() as u16).to_be_bytes());
+    transcript.put(input);
+    put_element(&mut transcript, u);
+    transcript.put(b"Finalize");
+    hash(transcript.as_slice())
 }

@@ -7,3 +7,4 @@ pub mod Bytes
 pub mod Logarithms
 pub mod Codes
 pub mod Tabled
+pub mod Writing

@@ -3,3 +3,4 @@ pub mod Bytes
 pub mod Sought
 pub mod Cycle
 pub mod Numbered
+pub mod Writing

@@ -1,6 +1,6 @@
 -- The loop over the items of a batch, one item on.
-use Rattle.std.proofs.Common.{◌≡◌, ℕ, suc, ◌+◌, ◌-◌, ◌*◌, ◌<◌, ◌≤◌, Bool, true, false, cond, List, length, take, drop, Ok, Err, Result, sym, ap, ◌∙◌, add-mul, one-mul, arith, eq-eqb}
-use Rattle.std.proofs.lemmas.List.{drop-drop}
+use Rattle.std.proofs.Common.{◌≡◌, ℕ, zero, suc, ◌+◌, ◌-◌, ◌*◌, ◌<◌, ◌≤◌, Bool, true, false, cond, List, ◌++◌, length, take, drop, Ok, Err, Result, sym, refl, ap, ◌∙◌, add-mul, one-mul, suc-mul, length-append, arith, eq-eqb}
+use Rattle.std.proofs.lemmas.List.{take_at, drop_at}
 use Rattle.faults.specs.declared.BatchFault.{BatchFault}
 use Rattle.group.specs.Model.{Model}
 use Rattle.faults.specs.declared.BatchFault.TheVariants.{BadProof}
@@ -13,6 +13,21 @@ use Rattle.voprf.specs.Proving.{then, step, steps, seed, count, composites, same
 pub next_place : (at i w width : ℕ) → at ≡ i * w → width ≡ w → at + width ≡ (i + 1) * w
 next_place at i w width e f = omega (arith, add-mul i 1 w, one-mul w)
 
+-- once an item's code is taken off a row, the row has one code less
+pub one_less : (n i w : ℕ) (row code rest : List ℕ) → i < n → row ≡ code ++ rest → length code ≡ w → length row ≡ (n - i) * w →
+    length rest ≡ (n - (i + 1)) * w
+one_less n i w row code rest h parts wide long =
+    let one : n - i ≡ suc (n - (i + 1)) = omega arith in
+    omega (arith, ap length parts, length-append code rest, ap (λ (k : ℕ). k * w) one, suc-mul (n - (i + 1)) w)
+
+too_short : (k w : ℕ) → k * w < w → k ≡ 0
+too_short zero w h = refl
+too_short (suc k) w h = absurd (omega (arith, suc-mul k w))
+
+-- a row that is too short for a code has none left
+pub none_left : (n i w long : ℕ) → long ≡ (n - i) * w → long < w → n ≤ i
+none_left n i w long e h = let none = too_short (n - i) w (omega arith) in omega arith
+
 module _ {E S K : Type 0} (m : Model E S K) where
   steps_more : (s : List ℕ) (i n : ℕ) (bs es : List ℕ) (sums : E × E) → i < n →
       steps m s i (n - i) bs es sums ≡
@@ -22,23 +37,21 @@ module _ {E S K : Type 0} (m : Model E S K) where
   steps_more s i n bs es sums h =
       let one : n - i ≡ suc (n - (i + 1)) = omega arith in ap (λ (k : ℕ). steps m s i k bs es sums) one
 
-  -- with the item's answer in hand, and its codes as parts of the rows
-  pub onward : (s : List ℕ) (i n : ℕ) (bs es : List ℕ) (at width k : ℕ) (sums : E × E) (r : Result (E × E) BatchFault) → i < n →
-      width ≡ m.element_width → k ≡ width → r ≡ step m s i (take k (drop at bs)) (take k (drop at es)) sums →
-      then r (steps m s (i + 1) (n - (i + 1)) (drop (at + width) bs) (drop (at + width) es)) ≡
-      steps m s i (n - i) (drop at bs) (drop at es) sums
-  onward s i n bs es at width k sums r h wide same e =
+  -- with the item's answer in hand, and its codes at the front of the rows
+  pub onward : (s : List ℕ) (i n : ℕ) (bs es b e later behind : List ℕ) (sums : E × E) (r : Result (E × E) BatchFault) → i < n →
+      length b ≡ m.element_width → length e ≡ m.element_width → bs ≡ b ++ later → es ≡ e ++ behind → r ≡ step m s i b e sums →
+      then r (steps m s (i + 1) (n - (i + 1)) later behind) ≡ steps m s i (n - i) bs es sums
+  onward s i n bs es b e later behind sums r h lb le here there answer =
       let w = m.element_width in
-      let F : List ℕ → List ℕ → Result (E × E) BatchFault → Result (E × E) BatchFault =
-      λ x y z. then z (steps m s (i + 1) (n - (i + 1)) x y) in
-      let all : k ≡ w = omega arith in
-      let placed : (xs : List ℕ) → drop (at + width) xs ≡ drop w (drop at xs) =
-      λ xs. ap (λ (j : ℕ). drop (at + j) xs) wide ∙ sym (drop-drop w at xs) in
-      ap (λ (x : List ℕ). F x (drop (at + width) es) r) (placed bs)
-      ∙ ap (λ (y : List ℕ). F (drop w (drop at bs)) y r) (placed es)
-      ∙ ap (F (drop w (drop at bs)) (drop w (drop at es))) e
-      ∙ ap (λ (j : ℕ). F (drop w (drop at bs)) (drop w (drop at es)) (step m s i (take j (drop at bs)) (take j (drop at es)) sums)) all
-      ∙ sym (steps_more s i n (drop at bs) (drop at es) sums h)
+      let F : List ℕ → List ℕ → List ℕ → List ℕ → Result (E × E) BatchFault =
+      λ x y u v. then (step m s i x y sums) (steps m s (i + 1) (n - (i + 1)) u v) in
+      ap (λ z. then z (steps m s (i + 1) (n - (i + 1)) later behind)) answer
+      ∙ sym
+      (steps_more s i n bs es sums h
+      ∙ ap (λ (x : List ℕ). F x (take w es) (drop w bs) (drop w es)) (ap (take w) here ∙ take_at b later w lb)
+      ∙ ap (λ (y : List ℕ). F b y (drop w bs) (drop w es)) (ap (take w) there ∙ take_at e behind w le)
+      ∙ ap (λ (u : List ℕ). F b e u (drop w es)) (ap (drop w) here ∙ drop_at b later w lb)
+      ∙ ap (λ (v : List ℕ). F b e later v) (ap (drop w) there ∙ drop_at e behind w le))
 
   pub steps_done : (s : List ℕ) (i n : ℕ) (bs es : List ℕ) (sums : E × E) → n ≤ i → steps m s i (n - i) bs es sums ≡ Ok sums
   unfolding steps

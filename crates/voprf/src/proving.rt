@@ -5,108 +5,100 @@ ghost use Rattle.voprf.specs.Proving.{seed as seed_of, weight as weight_of, read
 
 use faults::{BatchFault, WireFault};
 use group::{Group, multiple};
-use hashing::{hash, hash_to_scalar, put, put_context, put_element, put_framed};
+use hashing::{hash, hash_to_scalar, put_context, put_element, put_framed};
+use numbers::writer::Writer;
+use scratch::ENOUGH;
 
 // The most items that a batch has.
 pub const MOST: usize = 16;
 
-// What all weights of a batch begin with.
-fn seed<G: Group>(bytes: &mut [u8], pk: G) -> [u8; 32]
-    requires { 1024 ≤ length bytes.old }
-    ensures { result ≡ seed_of G.model pk }
-{
-    let at = put_element(bytes, 0, pk);
-    // "Seed-" has 5 bytes, and the context string 15 beside the group's name
-    let at = put(bytes, at, &(20 + G::name().len() as u16).to_be_bytes());
-    let at = put(bytes, at, b"Seed-");
-    let end = put_context::<G>(bytes, at);
-    hash(&bytes[0..end])
+// The codes of an item: of what was sent, and of what was answered.
+#[derive(Clone, Copy)]
+struct Answered<'a> {
+    sent: &'a [u8],
+    got: &'a [u8],
+    ghost short_sent: { length sent.now ≤ 8 },
+    ghost short_got: { length got.now ≤ 8 },
 }
 
-// The weight of the item at a place, counted from 0, whose codes are these.
+// What all weights of a batch begin with.
+fn seed<G: Group>(work: &mut [u8; ENOUGH], pk: G) -> [u8; 32]
+    ensures { result ≡ seed_of G.model pk }
+{
+    let mut transcript = Writer::new(work);
+    put_element(&mut transcript, pk);
+    // "Seed-" has 5 bytes, and the context string 15 beside the group's name
+    transcript.put(&(20 + G::name().len() as u16).to_be_bytes());
+    transcript.put(b"Seed-");
+    put_context::<G>(&mut transcript);
+    hash(transcript.as_slice())
+}
+
+// The weight of an item at a place, counted from 0.
 fn weight<G: Group>(
-    bytes: &mut [u8],
+    work: &mut [u8; ENOUGH],
     seed: &[u8; 32],
     place: u16,
-    sent: &[u8],
-    got: &[u8],
+    item: Answered<'_>,
 ) -> G::Scalar
-    requires room { 1024 ≤ length bytes.old }
-    requires sent { length sent.now ≤ 8 }
-    requires got { length got.now ≤ 8 }
-    ensures { result ≡ weight_of G.model seed.now place sent.now got.now }
+    ensures { result ≡ weight_of G.model seed.now place item.entry.sent.now item.entry.got.now }
 {
-    let at = put(bytes, 0, &[0, 32]);
-    let at = put(bytes, at, seed);
-    let at = put(bytes, at, &place.to_be_bytes());
-    let at = put_framed::<G>(bytes, at, sent);
-    let at = put_framed::<G>(bytes, at, got);
-    let len = put(bytes, at, b"Composite");
-    hash_to_scalar::<G>(bytes, len)
+    let mut transcript = Writer::new(work);
+    transcript.put(&[0, 32]);
+    transcript.put(seed);
+    transcript.put(&place.to_be_bytes());
+    put_framed::<G>(&mut transcript, item.sent);
+    put_framed::<G>(&mut transcript, item.got);
+    transcript.put(b"Composite");
+    hash_to_scalar::<G>(&mut transcript)
 }
 
 // The element of an item's code; a fault of the group becomes one of the batch, with the item, from 1.
-fn item<G: Group>(place: u16, code: &[u8]) -> Result<G, BatchFault>
+fn element<G: Group>(place: u16, code: &[u8]) -> Result<G, BatchFault>
     requires { place < 16 }
     ensures { result ≡ read_item G.model place (G.model.element code.now) }
 {
-    match G::decode(code) {
-        Ok(p) => Ok(p),
-        Err(fault) => Err(BatchFault::Item {
-            item: place as u8 + 1,
-            fault,
-        }),
-    }
+    G::decode(code).map_err(|fault| fault.of_item(place as u8 + 1))
 }
 
 // The two sums with one item more, each time with the item's weight.
 fn add_item<G: Group>(
-    bytes: &mut [u8],
+    work: &mut [u8; ENOUGH],
     seed: &[u8; 32],
     place: u16,
-    sent: &[u8],
-    got: &[u8],
-    m: G,
-    w: G,
+    item: Answered<'_>,
+    sums: (G, G),
 ) -> Result<(G, G), BatchFault>
-    requires room { 1024 ≤ length bytes.old }
-    requires place { place < 16 }
-    requires sent { length sent.now ≤ 8 }
-    requires got { length got.now ≤ 8 }
-    ensures { result ≡ step G.model seed.now place sent.now got.now (m, w) }
+    requires { place < 16 }
+    ensures { result ≡ step G.model seed.now place item.entry.sent.now item.entry.got.now sums }
 {
-    let b = item::<G>(place, sent)?;
-    let e = item::<G>(place, got)?;
-    let k = weight::<G>(bytes, seed, place, sent, got);
-    Ok((m.sum(multiple(k, b)), w.sum(multiple(k, e))))
+    let sent = element::<G>(place, item.sent)?;
+    let got = element::<G>(place, item.got)?;
+    let k = weight::<G>(work, seed, place, item);
+    let (m, w) = sums;
+    Ok((m.sum(multiple(k, sent)), w.sum(multiple(k, got))))
 }
 
 // The weighted sums of two rows of codes.
 fn sum_items<G: Group>(
-    bytes: &mut [u8],
+    work: &mut [u8; ENOUGH],
     seed: &[u8; 32],
     sent: &[u8],
     got: &[u8],
     count: u16,
 ) -> Result<(G, G), BatchFault>
-    requires room { 1024 ≤ length bytes.old }
     requires few { count ≤ 16 }
     requires sent { length sent.now ≡ count * G.model.element_width }
     requires got { length got.now ≡ length sent.now }
     ensures { result ≡ steps G.model seed.now 0 count sent.now got.now (null G.model, null G.model) }
 {
     let width = G::element_width();
-    let mut m = G::null();
-    let mut w = G::null();
-    let mut at: usize = 0;
-    for i in 0..count {
-        let end = at + width;
-        let sums = add_item::<G>(bytes, seed, i, &sent[at..end], &got[at..end], m, w)?;
-        m = sums.0;
-        w = sums.1;
-        at = end;
+    let mut sums = (G::null(), G::null());
+    let codes = sent.chunks_exact(width).zip(got.chunks_exact(width));
+    for (place, (sent, got)) in (0..count).zip(codes) {
+        sums = add_item::<G>(work, seed, place, Answered { sent, got }, sums)?;
     }
-    Ok((m, w))
+    Ok(sums)
 }
 
 // M and W: the weighted sums of the elements sent and of the elements got, which stand as codes in two rows.
@@ -124,22 +116,30 @@ pub fn composites<G: Group>(
     if sent.len() != count * width || got.len() != sent.len() || count > MOST {
         return Err(BatchFault::Wire(WireFault::WrongLength));
     }
-    let seed = seed(bytes, pk);
-    sum_items(bytes, &seed, sent, got, count as u16)
+    let work = bytes.first_chunk_mut().unwrap();
+    let seed = seed(work, pk);
+    sum_items(work, &seed, sent, got, count as u16)
 }
 
 // The hash that ties a proof to its key, its composites and its two commitments.
-fn challenge<G: Group>(bytes: &mut [u8], pk: G, m: G, w: G, t2: G, t3: G) -> G::Scalar
-    requires { 1024 ≤ length bytes.old }
-    ensures { result ≡ challenged G.model pk m w t2 t3 }
+fn challenge<G: Group>(
+    work: &mut [u8; ENOUGH],
+    pk: G,
+    composites: (G, G),
+    commitments: (G, G),
+) -> G::Scalar
+    ensures { result ≡ challenged G.model pk composites.0 composites.1 commitments.0 commitments.1 }
 {
-    let at = put_element(bytes, 0, pk);
-    let at = put_element(bytes, at, m);
-    let at = put_element(bytes, at, w);
-    let at = put_element(bytes, at, t2);
-    let at = put_element(bytes, at, t3);
-    let len = put(bytes, at, b"Challenge");
-    hash_to_scalar::<G>(bytes, len)
+    let (m, w) = composites;
+    let (t2, t3) = commitments;
+    let mut transcript = Writer::new(work);
+    put_element(&mut transcript, pk);
+    put_element(&mut transcript, m);
+    put_element(&mut transcript, w);
+    put_element(&mut transcript, t2);
+    put_element(&mut transcript, t3);
+    transcript.put(b"Challenge");
+    hash_to_scalar::<G>(&mut transcript)
 }
 
 // A proof that the key answered every item: challenge and response.
@@ -156,19 +156,27 @@ pub fn prove<G: Group>(
 {
     let (m, w) = composites(bytes, pk, sent, got)?;
     let u = G::scalar_of(nonce);
-    let c = challenge(bytes, pk, m, w, G::base_multiple(u), multiple(u, m));
+    let commitments = (G::base_multiple(u), multiple(u, m));
+    let work = bytes.first_chunk_mut().unwrap();
+    let c = challenge(work, pk, (m, w), commitments);
     let s = G::subtract(u, G::multiply(c, G::scalar_of(key)));
     Ok((c, s))
 }
 
 // The challenge that a proof leads back to.
-fn retrace<G: Group>(bytes: &mut [u8], pk: G, m: G, w: G, c: G::Scalar, s: G::Scalar) -> G::Scalar
-    requires { 1024 ≤ length bytes.old }
-    ensures { result ≡ rechallenge G.model pk (m, w) (c, s) }
+fn retrace<G: Group>(
+    work: &mut [u8; ENOUGH],
+    pk: G,
+    composites: (G, G),
+    proof: (G::Scalar, G::Scalar),
+) -> G::Scalar
+    ensures { result ≡ rechallenge G.model pk composites proof }
 {
+    let (m, w) = composites;
+    let (c, s) = proof;
     let t2 = G::base_multiple(s).sum(multiple(c, pk));
     let t3 = multiple(s, m).sum(multiple(c, w));
-    challenge(bytes, pk, m, w, t2, t3)
+    challenge(work, pk, composites, (t2, t3))
 }
 
 // Whether challenge and response prove that the key of `pk` answered every item.
@@ -183,8 +191,9 @@ pub fn check<G: Group>(
     requires { 1024 ≤ length bytes.old }
     ensures { result ≡ checked G.model pk sent.now got.now (c, s) }
 {
-    let (m, w) = composites(bytes, pk, sent, got)?;
-    if !G::same_scalar(retrace(bytes, pk, m, w, c, s), c) {
+    let composites = composites(bytes, pk, sent, got)?;
+    let work = bytes.first_chunk_mut().unwrap();
+    if !G::same_scalar(retrace(work, pk, composites, (c, s)), c) {
         return Err(BatchFault::BadProof);
     }
     Ok(())

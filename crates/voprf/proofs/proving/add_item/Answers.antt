@@ -2,13 +2,13 @@ use Rattle.std.proofs.Common.{rules}
 use Rattle.voprf.specs.Proving.{step}
 use Rattle.voprf.proofs.proving.add_item.Goals as goal
 
-pub returns-in_err-b : goal.returns-in_err-b
+pub returns-in_err-sent : goal.returns-in_err-sent
 unfolding step
-returns-in_err-b g c = search rules
+returns-in_err-sent g c = search rules
 
-pub returns-in_err-e : goal.returns-in_err-e
+pub returns-in_err-got : goal.returns-in_err-got
 unfolding step
-returns-in_err-e g c = search rules
+returns-in_err-got g c = search rules
 
 pub returns : goal.returns
 unfolding step

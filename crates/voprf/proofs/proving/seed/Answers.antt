@@ -1,9 +1,9 @@
-use Rattle.std.proofs.Common.{◌≡◌, ℕ, ◌+◌, ◌-◌, List, ◌++◌, length, take, codes, ap, ◌∙◌, arith}
+use Rattle.std.proofs.Common.{◌≡◌, ℕ, ◌+◌, List, ◌++◌, length, codes, ap, ◌∙◌, arith}
 use Rattle.std.proofs.lemmas.List.{length-append}
 use Rattle.digest.specs.Sha256.{sha256}
 use Rattle.numbers.specs.Bytes.{two_bytes}
+use Rattle.numbers.proofs.Writing.{and_then, same_part, whole}
 use Rattle.hashing.specs.Hashing.{context_string}
-use Rattle.hashing.proofs.Appending.{and_then, same_part, whole}
 use Rattle.voprf.specs.Proving.{seed}
 use Rattle.voprf.proofs.proving.seed.Goals as goal
 
@@ -15,11 +15,10 @@ returns g c =
     let long : 20 + length c.name.result.now ≡ length (codes "Seed-" ++ context_string m) =
     ap (λ (l : List ℕ). 20 + length l) named
     ∙ omega (arith, length-append m.name (codes "-SHA256")) in
-    let all =
-    and_then c.put_element-at.ensures.appended
-    (and_then (same_part (c.to_be_bytes.ensures ∙ ap two_bytes long) c.put-at.ensures)
-    (and_then c.put-at-2.ensures c.put_context-end.ensures.appended)) in
-    let from : c.put_context-end.result - 0 ≡ c.put_context-end.result = omega arith in
     c.hash.ensures
-    ∙ ap (λ (n : ℕ). sha256 (take n c.put_context-end.new.bytes)) from
-    ∙ ap sha256 (whole all)
+    ∙ ap sha256
+    (c.as_slice.ensures
+    ∙ whole c.new-transcript.ensures.parts
+    (and_then c.put_element.ensures.put
+    (and_then (same_part (c.to_be_bytes.ensures ∙ ap two_bytes long) c.put.ensures)
+    (and_then c.put-2.ensures c.put_context.ensures.put))))
