@@ -1,6 +1,6 @@
 -- The test for two equal byte strings, against their equality.
-use Rattle.std.proofs.Common.{◌≡◌, ℕ, Bool, true, false, ◌&&◌, eqb, List, [], ◌∷◌, Decides, sym, refl, ap, ◌∙◌, ⊎_elim, arith, eq-eqb, eqb-true}
-use Rattle.std.proofs.lemmas.Bool.{cases_Bool}
+use Rattle.std.proofs.Common.{◌≡◌, ℕ, Bool, true, false, ◌&&◌, eqb, List, [], ◌∷◌, sym, refl, ap, ◌∙◌, not, arith, eq-eqb, eqb-true}
+use lib.Pointwise.{pointwise}
 use Rattle.station.specs.Redeeming.{same}
 
 false_true : {P : Type 0} → false ≡ true → P
@@ -24,13 +24,13 @@ pub same_refl : (a : List ℕ) → same a a ≡ true
 same_refl [] = refl
 same_refl (x ∷ a) = rw (eq-eqb x x refl) (same_refl a)
 
-pub same_tested : (a b : List ℕ) (r : Bool) → Decides r (a ≡ b) → r ≡ same a b
-same_tested a b r d =
-    ⊎_elim
-    (λ (t : r ≡ true). t ∙ sym (same_refl b) ∙ ap (λ (l : List ℕ). same l b) (sym (d.0 t)))
-    (λ (f : r ≡ false).
-    ⊎_elim
-    (λ (s : same a b ≡ true). d.1 (same_true a b s) ∙ sym s)
-    (λ (s : same a b ≡ false). f ∙ sym s)
-    (cases_Bool (same a b)))
-    (cases_Bool r)
+-- the test that `==` makes
+pub same_pointwise : (a b : List ℕ) → pointwise eqb a b ≡ same a b
+same_pointwise [] [] = refl
+same_pointwise [] (y ∷ b) = refl
+same_pointwise (x ∷ a) [] = refl
+same_pointwise (x ∷ a) (y ∷ b) = ap (λ t. eqb x y && t) (same_pointwise a b)
+
+-- the test that `!=` makes, on bytes behind another name
+pub other_tested : (a b d : List ℕ) (r t : Bool) → r ≡ not (pointwise eqb a b) → b ≡ d → r ≡ t → not (same a d) ≡ t
+other_tested a b d r t e f g = ap (λ l. not (same a l)) (sym f) ∙ ap not (sym (same_pointwise a b)) ∙ sym e ∙ g

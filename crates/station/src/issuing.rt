@@ -7,7 +7,7 @@ ghost use Rattle.ring.specs.Places.{places, key_in};
 ghost use Rattle.token.specs.Tokens.{element_of};
 ghost use Rattle.station.specs.Issuing.{of_item, order_seen, Sound, accepted, answer_codes, replied, reply_counted, reply_laid};
 
-use faults::{BatchFault, GroupFault, StationFault, WireFault};
+use faults::{BatchFault, StationFault, WireFault};
 use group::Group;
 use hashing::put;
 use messages::{Reply, Request, read_request, reply_len, write_reply};
@@ -48,13 +48,7 @@ fn item<G: Group>(place: u8, code: &[u8]) -> Result<G, BatchFault>
     requires { place < 16 }
     ensures { result ≡ of_item place (element_of G.model code.now) }
 {
-    match element::<G>(code) {
-        Ok(p) => Ok(p),
-        Err(fault) => Err(BatchFault::Item {
-            item: place + 1,
-            fault,
-        }),
-    }
+    element::<G>(code).map_err(|fault| fault.of_item(place + 1))
 }
 
 // Puts the codes of the answers in a row from the front of `codes`, and answers where they end.

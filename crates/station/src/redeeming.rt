@@ -1,7 +1,7 @@
 // What a token must be before its pair is marked.
 ghost use Rattle.std.specs.Prelude.{◌≡◌, ◌≤◌, length};
 ghost use Rattle.ring.specs.Places.{places, key_in};
-ghost use Rattle.station.specs.Redeeming.{authentic as authentic_by, redeemable, same as same_list};
+ghost use Rattle.station.specs.Redeeming.{authentic as authentic_by, redeemable};
 
 use faults::{GroupFault, StationFault, TokenFault, WireFault};
 use group::Group;
@@ -12,14 +12,9 @@ use scratch::ENOUGH;
 use token::is_null;
 use voprf::blinding::{evaluate, public};
 
-// Whether two byte strings are the same.
-fn same(a: &[u8], b: &[u8]) -> bool
-    ensures { result ≡ same_list a.now b.now }
-{
-    a == b
-}
-
 // What a token says of itself must fit the key of its epoch: key id, mapped input, authenticator.
+// Stays a slice of enough bytes: with `first_chunk_mut::<ENOUGH>()` in `redeemed_pair` and an array here, `search` leaves
+// that function's returns after the loan open, from `returns-in_err-token` on.
 fn authentic<G: Group>(
     bytes: &mut [u8],
     key: G::NonZero,
@@ -31,14 +26,14 @@ fn authentic<G: Group>(
     requires input { length input.now ≡ 100 }
     ensures { result ≡ authentic_by G.model key id.now told.now input.now }
 {
-    if !same(id, &key_id(public::<G>(key))) {
+    if id != key_id(public::<G>(key)).as_slice() {
         return Err(StationFault::Token(TokenFault::OtherKey));
     }
     let mapped = hash_to_group::<G>(bytes, input);
     if is_null(mapped) {
         return Err(StationFault::Group(GroupFault::NullInput));
     }
-    if !same(told, &authenticator(bytes, input, evaluate(key, mapped))) {
+    if told != authenticator(bytes, input, evaluate(key, mapped)).as_slice() {
         return Err(StationFault::Token(TokenFault::OtherAuthenticator));
     }
     Ok(())
