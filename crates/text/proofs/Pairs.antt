@@ -1,6 +1,7 @@
 -- Texts that are digits in pairs, pair by pair. Assumes nothing.
-use Rattle.std.proofs.Common.{◌≡◌, ℕ, suc, ◌+◌, ◌-◌, ◌*◌, ◌/◌, ◌%◌, ◌<◌, ◌≤◌, T, List, [], ◌∷◌, ◌++◌, length, get_or, take, drop, Ok, Err, sym, refl, ap, ◌∙◌, subst, append_assoc, append-nil, arith}
-use Rattle.std.proofs.lemmas.List.{take_rest}
+use Rattle.std.proofs.Common.{◌≡◌, ℕ, zero, suc, ◌+◌, ◌*◌, ◌/◌, ◌%◌, ◌<◌, ◌≤◌, T, List, [], ◌∷◌, ◌++◌, length, get_or, take, drop, Ok, Err, sym, refl, ap, ◌∙◌, subst, append_assoc, append-nil, arith}
+use Rattle.std.proofs.lemmas.List.{drop-drop, get_or-take, length-drop}
+use Rattle.std.specs.Simd.{first_chunks}
 use Rattle.std.specs.List.{prefix_len}
 use Rattle.text.specs.Classes.{hex_digit}
 use Rattle.std.proofs.lemmas.Bool.{eq-eqb, ne_eqb}
@@ -21,17 +22,39 @@ module _ (whole done : List ℕ) where
       let one = run_parts hex_digit h (l ∷ after) s.digits in
       (subst T (sym one.0) tt, subst T (sym (run_parts hex_digit l after one.1).0) tt)
 
-  pub one_more : (r : List ℕ) (a b : ℕ) → 2 ≤ length r → Sofar whole r done → a ≡ worth (get_or r 0 0) → b ≡ worth (get_or r 1 0) → Sofar whole (take (length r - 2) (drop 2 r)) (done ++ (a * 16 + b) ∷ [])
+  pub one_more : (r : List ℕ) (a b : ℕ) → 2 ≤ length r → Sofar whole r done → a ≡ worth (get_or r 0 0) → b ≡ worth (get_or r 1 0) → Sofar whole (drop 2 r) (done ++ (a * 16 + b) ∷ [])
   one_more [] a b two s x y = absurd (omega arith)
   one_more (c ∷ []) a b two s x y = absurd (omega arith)
   one_more (h ∷ l ∷ after) a b two s x y =
       let one = run_parts hex_digit h (l ∷ after) s.digits in
-      let next : Sofar whole after (done ++ (a * 16 + b) ∷ []) = record {
+      record {
         digits = (run_parts hex_digit l after one.1).1;
         even = omega (arith, s.even);
         same = append_assoc done _ (paired after) ∙ ap (λ n. done ++ n ∷ paired after) (ap (λ n. n * 16 + b) x ∙ ap (λ n. worth h * 16 + n) y) ∙ s.same;
-      } in
-      subst (λ t. Sofar whole t (done ++ (a * 16 + b) ∷ [])) (sym (take_rest (h ∷ l ∷ after) 2)) next
+      }
+
+-- the pair at place i
+pub pair_at : (k : ℕ) (t : List ℕ) (i : ℕ) → i < k → get_or (first_chunks 2 k t) i [] ≡ take 2 (drop (2 * i) t)
+pair_at zero t i h = absurd (omega arith)
+pair_at (suc k) t zero h = refl
+pair_at (suc k) t (suc i) h =
+    let place : 2 + 2 * i ≡ 2 * suc i = omega arith in
+    pair_at k (drop 2 t) i (omega arith) ∙ ap (take 2) (drop-drop (2 * i) 2 t ∙ ap (λ n. drop n t) place)
+
+module _ (whole done t pair : List ℕ) (i : ℕ) (is : pair ≡ take 2 (drop (2 * i) t)) (inside : 2 * i + 2 ≤ length t) (s : Sofar whole (drop (2 * i) t) done) where
+  at : (j : ℕ) → j < 2 → get_or pair j 0 ≡ get_or (drop (2 * i) t) j 0
+  at j h = ap (λ l. get_or l j 0) is ∙ get_or-take 2 (drop (2 * i) t) j 0 h
+
+  pub pair_digits : T (hex_digit (get_or pair 0 0)) × T (hex_digit (get_or pair 1 0))
+  pair_digits =
+      let both = first_digits whole done (drop (2 * i) t) (omega (arith, length-drop (2 * i) t)) s in
+      (subst (λ c. T (hex_digit c)) (sym (at 0 (omega arith))) both.0, subst (λ c. T (hex_digit c)) (sym (at 1 (omega arith))) both.1)
+
+  pub pair_read : (a b : ℕ) → a ≡ worth (get_or pair 0 0) → b ≡ worth (get_or pair 1 0) → Sofar whole (drop (2 * (i + 1)) t) (done ++ (a * 16 + b) ∷ [])
+  pair_read a b x y =
+      let place : 2 * i + 2 ≡ 2 * (i + 1) = omega arith in
+      subst (λ l. Sofar whole l (done ++ (a * 16 + b) ∷ [])) (drop-drop 2 (2 * i) t ∙ ap (λ n. drop n t) place)
+      (one_more whole done (drop (2 * i) t) a b (omega (arith, length-drop (2 * i) t)) s (x ∙ ap worth (at 0 (omega arith))) (y ∙ ap worth (at 1 (omega arith))))
 
 pub length_paired : (t : List ℕ) → length t % 2 ≡ 0 → length (paired t) ≡ length t / 2
 length_paired [] h = refl

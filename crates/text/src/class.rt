@@ -38,10 +38,6 @@ impl Class {
         ensures count { result ≡ prefix_len (belongs self) text.now }
         ensures bound { result ≤ length text.now }
     {
-        let mut count = 0;
-        while count < text.len() && self.has(text[count]) {
-            count += 1;
-        }
-        count
+        text.iter().take_while(|c| self.has(**c)).count()
     }
 }

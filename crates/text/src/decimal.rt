@@ -61,15 +61,15 @@ fn spell(number: u64, digits: &mut [u8; DIGITS]) -> usize
     ensures within { result ≤ 20 }
     ensures digits { drop result digits.new ≡ decimal number }
 {
-    let mut start = DIGITS - 1;
-    digits[start] = b'0' + (number % 10) as u8;
-    let mut rest = number / 10;
-    while rest > 0 {
-        start -= 1;
+    let mut rest = number;
+    for start in (0..DIGITS).rev() {
         digits[start] = b'0' + (rest % 10) as u8;
         rest /= 10;
+        if rest == 0 {
+            return start;
+        }
     }
-    start
+    unreachable!()
 }
 
 // Adds the number's digits to the end of `text`.

@@ -2,7 +2,7 @@
 ghost use Rattle.std.specs.Prelude.{◌≡◌, ◌<◌, T};
 ghost use Rattle.text.specs.Appending.{Appends};
 ghost use Rattle.text.specs.Classes.{hex_digit};
-ghost use Rattle.text.specs.Hexadecimal.{digit as «digit-of», worth, written, Reads, ReadingUndoesWriting};
+ghost use Rattle.text.specs.Hexadecimal.{digit as lower_digit, worth, written, Reads, ReadingUndoesWriting};
 ghost use Rattle.text.specs.declared.hex.HexFault.TheVariants.{Memory};
 
 use crate::class::Class;
@@ -24,9 +24,11 @@ impl From<AllocError> for HexFault {
     }
 }
 
+// Stays a test of its own, as `worth_of` does: `char::from_digit` answers an `Option` of a `char`, and `to_digit`
+// reads upper case too.
 fn digit_of(number: u8) -> u8
     requires { number < 16 }
-    ensures { result ≡ «digit-of» number }
+    ensures { result ≡ lower_digit number }
 {
     if number < 10 {
         b'0' + number
@@ -51,14 +53,13 @@ pub fn read(text: &[u8], bytes: &mut Vec<u8>) -> Result<(), HexFault>
     ensures { Reads text.now bytes.old bytes.new result }
 {
     let place = Class::Hexadecimal.run(text);
-    if place < text.len() || text.len() % 2 != 0 {
+    let (pairs, odd) = text.as_chunks::<2>();
+    if place < text.len() || !odd.is_empty() {
         return Err(HexFault::Wrong { place });
     }
-    bytes.reserve(text.len() / 2)?;
-    let mut rest = text;
-    while let [high, low, after @ ..] = rest {
+    bytes.reserve(pairs.len())?;
+    for [high, low] in pairs {
         bytes.push_reserved(worth_of(*high) * 16 + worth_of(*low));
-        rest = after;
     }
     Ok(())
 }

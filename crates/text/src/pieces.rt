@@ -31,9 +31,9 @@ pub fn write(pieces: &[Piece<'_>], line: &mut Vec<u8>) -> Result<(), AllocError>
 {
     let start = line.len();
     for piece in pieces {
-        if piece.write(line).is_err() {
+        if let Err(full) = piece.write(line) {
             line.truncate(start);
-            return Err(AllocError);
+            return Err(full);
         }
     }
     Ok(())

@@ -21,6 +21,8 @@ impl<'a> Words<'a> {
     }
 
     // Takes the next word, if one is left.
+    // Stays a method, and no `Iterator`: a reader takes one word, and refuses the line where it is missing; none
+    // runs over all words.
     pub fn take(&mut self) -> Option<&'a [u8]>
         ensures { Taken result (left self.old) (left self.new) }
     {
