@@ -1,6 +1,6 @@
 -- Weighted sums: what a sum that has come so far will answer over the rest, and what it is by its elements.
-use Rattle.std.proofs.Common.{◌≡◌, ℕ, zero, suc, ◌+◌, ◌-◌, ◌*◌, ◌/◌, ◌%◌, ◌<◌, ◌≤◌, cond, List, [], ◌∷◌, ◌++◌, map, length, get_or, take, drop, Some, None, Ok, Err, Option, Result, sym, refl, ap, ◌∙◌, append_assoc, add-zero, add-suc, mul-le-mul_right, suc-mul, mul_comm, suc-add, zero-mul, le_of_mul-le-mul_right, add-one, one-add, arith, length-append, drop_of_length-le, drop-cons, drop-drop, take_at, drop_at, eq-eqb}
-use native.Mathlib.Nat.{mod-add-div, add-sub_cancel_left}
+use Rattle.std.proofs.Common.{◌≡◌, ℕ, zero, suc, ◌+◌, ◌*◌, ◌/◌, ◌%◌, ◌<◌, ◌≤◌, cond, List, [], ◌∷◌, ◌++◌, map, length, take, drop, Some, None, Ok, Err, Option, Result, sym, refl, ap, ◌∙◌, inl, inr, ◌⊎◌, append_assoc, add-zero, add-suc, mul-le-mul_right, suc-mul, mul_comm, suc-add, zero-mul, le_of_mul-le-mul_right, add-one, one-add, arith, length-append, take_at, drop_at, eq-eqb}
+use native.Mathlib.Nat.{mod-add-div}
 use Rattle.std.proofs.lemmas.Nat.{div-mul-add, mod-mul-add}
 use Rattle.std.proofs.lemmas.Bool.{ne_eqb}
 use Rattle.std.specs.Option.{ok_or}
@@ -37,11 +37,6 @@ length_quotient n k w h e =
 
 pub item_within : (at i w n len : ℕ) → i < n → at ≡ i * w → len ≡ n * w → at + w ≤ len
 item_within at i w n len h e l = omega (arith, mul-le-mul_right w h, suc-mul i w)
-
-pub drop_some : {X : Type 0} (xs : List X) (i : ℕ) → i < length xs → (x : X) × (drop i xs ≡ x ∷ drop (suc i) xs)
-drop_some [] i h = absurd (omega arith)
-drop_some (x ∷ xs) zero h = (x, refl)
-drop_some (x ∷ xs) (suc i) h = drop_some xs i (omega arith)
 
 fewer : (a b w : ℕ) → 1 ≤ w → suc a * w ≤ b * w → a < b
 fewer a b w h le = le_of_mul-le-mul_right le h
@@ -92,12 +87,6 @@ module _ {E S K : Type 0} (m : Model E S K) where
   onward_end : (total : E) (i : ℕ) (codes : List ℕ) → onward total i codes [] ≡ Ok total
   onward_end total i codes = ap (λ x. Ok x) (ap (λ y. sum m total y) empty ∙ (lawful m).neutral total)
 
-  -- with all scalars used, the total is the answer
-  pub ended : (total : E) (i : ℕ) (codes : List ℕ) (scalars : List S) (answer : Result E SumFault) → length scalars ≤ i →
-      onward total (suc i) codes (drop i scalars) ≡ answer → Ok total ≡ answer
-  ended total i codes scalars answer h inv =
-      sym (ap (λ ss. onward total (suc i) codes ss) (drop_of_length-le scalars {i = i} h) ∙ onward_end total (suc i) codes) ∙ inv
-
   start_by : (ss : List S) (r : Result (List E) ℕ) → onward_by (null m) ss r ≡ summed m ss r
   start_by ss (Ok ps) = ap (λ x. Ok x) ((lawful m).swapped (null m) (weighted m ss ps) ∙ (lawful m).neutral (weighted m ss ps))
   start_by ss (Err i) = refl
@@ -115,39 +104,62 @@ module _ {E S K : Type 0} (m : Model E S K) where
   wrong_length codes ss h =
       sym (ap (λ b. cond b (summed m ss (elements m 1 (length ss) codes)) (Err (Wire WrongLength))) (ne_eqb (length codes) (length ss * m.element_width) h))
 
-  -- a turn of the loop, at item i, whose code stands at a place
-  module _ (codes : List ℕ) (scalars : List S) (total : E) (at i w : ℕ) (h : i < length scalars) (width : w ≡ m.element_width) where
-    part : take (at + w - at) (drop at codes) ≡ take m.element_width (drop at codes)
-    part = ap (λ (n : ℕ). take n (drop at codes)) (add-sub_cancel_left at w ∙ width)
+  -- What iterators over codes of one size and over scalars have left, after so many items, answers for the whole.
+  abbrev pub Left : E → ℕ → ℕ → List ℕ → List S → Result E SumFault → Type 0
+  Left total size count codes ss answer =
+      (size ≡ m.element_width) × (length codes ≡ length ss * m.element_width) × (onward total (suc count) codes ss ≡ answer)
 
-    next_item : (s : S) (p : E) → s ≡ get_or scalars i s → Ok p ≡ ok_or (m.element (take (at + w - at) (drop at codes))) NoElement →
-        onward total (suc i) (drop at codes) (drop i scalars) ≡
-        onward (sum m total (multiple m s p)) (suc (i + 1)) (drop (at + w) codes) (drop (i + 1) scalars)
-    next_item s p e d =
-        let found : m.element (take m.element_width (drop at codes)) ≡ Some p =
-        sym (ap m.element part) ∙ some_from_ok (m.element (take (at + w - at) (drop at codes))) p NoElement d in
-        let here : drop i scalars ≡ s ∷ drop (suc i) scalars = drop-cons scalars i s h ∙ ap (λ t. t ∷ drop (suc i) scalars) (sym e) in
-        let one = add-one i in
-        ap (λ ss. onward total (suc i) (drop at codes) ss) here ∙ onward_some total (suc i) (drop at codes) s (drop (suc i) scalars) p found ∙
-        ap (λ bs. onward (sum m total (multiple m s p)) (suc (suc i)) bs (drop (suc i) scalars)) (drop-drop m.element_width at codes ∙ ap (λ (n : ℕ). drop (at + n) codes) (sym width)) ∙
-        ap (λ (n : ℕ). onward (sum m total (multiple m s p)) (suc n) (drop (at + w) codes) (drop n scalars)) (sym one)
+  pub all_left : (codes bytes : List ℕ) (scalars ss : List S) (total : E) (size count : ℕ) → length codes ≡ length scalars * m.element_width →
+      total ≡ null m → size ≡ m.element_width → count ≡ 0 → bytes ≡ codes → ss ≡ scalars → Left total size count bytes ss (weighted_sum m codes scalars)
+  all_left codes bytes scalars ss total size count long none width start same others = (
+    width,
+    ap length same ∙ long ∙ ap (λ ts. length ts * m.element_width) (sym others),
+    ap (λ t. onward t (suc count) bytes ss) none ∙ ap (λ (n : ℕ). onward (null m) (suc n) bytes ss) start ∙
+        ap (λ bs. onward (null m) 1 bs ss) same ∙ ap (λ ts. onward (null m) 1 codes ts) others ∙ onward_start codes scalars long,
+  )
 
-    -- the same, with what the calls answered
-    pub turned : (s : S) (p x y : E) (answer : Result E SumFault) → s ≡ get_or scalars i s →
-        Ok p ≡ ok_or (m.element (take (at + w - at) (drop at codes))) NoElement → x ≡ multiple m s p → y ≡ sum m total x →
-        onward total (suc i) (drop at codes) (drop i scalars) ≡ answer → onward y (suc (i + 1)) (drop (at + w) codes) (drop (i + 1) scalars) ≡ answer
-    turned s p x y answer e d f g inv =
-        ap (λ t. onward t (suc (i + 1)) (drop (at + w) codes) (drop (i + 1) scalars)) (g ∙ ap (sum m total) f) ∙ sym (next_item s p e d) ∙ inv
+  -- an item is taken: its code from the codes, and its scalar
+  module _ (total : E) (size count : ℕ) (codes code rest : List ℕ) (ss : List S) (s : S) (others : List S) (answer : Result E SumFault)
+      (cut : codes ≡ code ++ rest) (long : length code ≡ size) (taken : ss ≡ s ∷ others) (left : Left total size count codes ss answer) where
+    width : length code ≡ m.element_width
+    width = long ∙ left.0
 
-    pub bad_item : (d : GroupFault) → Err d ≡ ok_or (m.element (take (at + w - at) (drop at codes))) NoElement →
-        Err (Item (i + 1) d) ≡ onward total (suc i) (drop at codes) (drop i scalars)
-    bad_item d e =
-        let none = none_from_err (m.element (take (at + w - at) (drop at codes))) d NoElement e in
-        let here = drop_some scalars i h in
-        let one = add-one i in
-        ap (λ f. Err (Item (i + 1) f)) none.1 ∙ ap (λ (n : ℕ). Err (Item n NoElement)) one ∙
-        sym (ap (λ ss. onward total (suc i) (drop at codes) ss) here.1 ∙
-        onward_none total (suc i) (drop at codes) here.0 (drop (suc i) scalars) (sym (ap m.element part) ∙ none.0))
+    front : take m.element_width (code ++ rest) ≡ code
+    front = take_at code rest m.element_width width
+
+    here : onward total (suc count) (code ++ rest) (s ∷ others) ≡ answer
+    here = sym (ap (λ bs. onward total (suc count) bs ss) cut ∙ ap (λ ts. onward total (suc count) (code ++ rest) ts) taken) ∙ left.2
+
+    fewer_codes : length rest ≡ length others * m.element_width
+    fewer_codes =
+        let all : length code + length rest ≡ suc (length others) * m.element_width =
+        sym (ap length cut ∙ length-append code rest) ∙ left.1 ∙ ap (λ ts. length ts * m.element_width) taken in
+        omega (arith, all, width, suc-mul (length others) m.element_width)
+
+    -- with what the calls answered
+    pub turned : (p x y : E) (later next : ℕ) → Ok p ≡ ok_or (m.element code) NoElement → x ≡ multiple m s p → y ≡ sum m total x →
+        later ≡ size → next ≡ count + 1 → Left y later next rest others answer
+    turned p x y later next d f g same more = (
+      same ∙ left.0,
+      fewer_codes,
+      ap (λ (n : ℕ). onward y (suc n) rest others) (more ∙ add-one count) ∙
+          ap (λ t. onward t (suc (suc count)) rest others) (g ∙ ap (sum m total) f) ∙
+          ap (λ bs. onward (sum m total (multiple m s p)) (suc (suc count)) bs others) (sym (drop_at code rest m.element_width width)) ∙
+          sym (onward_some total (suc count) (code ++ rest) s others p (ap m.element front ∙ some_from_ok (m.element code) p NoElement d)) ∙ here,
+    )
+
+    pub bad_item : (i : ℕ) (d : GroupFault) → i ≡ count → Err d ≡ ok_or (m.element code) NoElement → Err (Item (i + 1) d) ≡ answer
+    bad_item i d same e =
+        let none = none_from_err (m.element code) d NoElement e in
+        ap (λ (n : ℕ). Err (Item n d)) (add-one i ∙ ap suc same) ∙ ap (λ f. Err (Item (suc count) f)) none.1 ∙
+        sym (onward_none total (suc count) (code ++ rest) s others (ap m.element front ∙ none.0)) ∙ here
+
+  -- with no code or no scalar left, the total is the answer
+  pub ended : (total : E) (size count : ℕ) (codes : List ℕ) (ss : List S) (answer : Result E SumFault) → Left total size count codes ss answer →
+      (length codes < size) ⊎ (length ss ≡ 0) → Ok total ≡ answer
+  ended total size count codes [] answer left over = sym (onward_end total (suc count) codes) ∙ left.2
+  ended total size count codes (s ∷ ss) answer left (inl short) = absurd (omega (arith, short, left.0, left.1, suc-mul (length ss) m.element_width))
+  ended total size count codes (s ∷ ss) answer left (inr none) = absurd (omega arith)
 
   pub row_length : (ps : List E) → length (row m ps) ≡ length ps * m.element_width
   row_length [] = sym (zero-mul m.element_width)

@@ -159,11 +159,10 @@ pub fn multiple<G: Group>(s: G::Scalar, p: G) -> G
     ensures { result ≡ multiple G.model s p }
 {
     let mut r = G::null();
-    let mut place = 8 * G::scalar_width();
-    while place > 0 {
-        place -= 1;
+    let width = G::scalar_width() as u32;
+    for place in (0..8 * width).rev() {
         r = r.sum(r);
-        if G::bit(s, place as u32) {
+        if G::bit(s, place) {
             r = r.sum(p);
         }
     }
@@ -183,23 +182,14 @@ pub enum SumFault {
 pub fn weighted_sum<G: Group>(codes: &[u8], scalars: &[G::Scalar]) -> Result<G, SumFault>
     ensures { result ≡ weighted_sum G.model codes.now scalars.now }
 {
-    let width = G::element_width();
-    if codes.len() / width != scalars.len() || codes.len() % width != 0 {
+    let items = codes.chunks_exact(G::element_width());
+    if items.len() != scalars.len() || !items.remainder().is_empty() {
         return Err(SumFault::Wire(WireFault::WrongLength));
     }
     let mut total = G::null();
-    let mut at: usize = 0;
-    for i in 0..scalars.len() {
-        let end = at + width;
-        match G::decode(&codes[at..end]) {
-            Ok(p) => {
-                total = total.sum(multiple(scalars[i], p));
-            }
-            Err(fault) => {
-                return Err(SumFault::Item(i + 1, fault));
-            }
-        }
-        at = end;
+    for (i, (code, s)) in items.zip(scalars).enumerate() {
+        let p = G::decode(code).map_err(|fault| SumFault::Item(i + 1, fault))?;
+        total = total.sum(multiple(*s, p));
     }
     Ok(total)
 }

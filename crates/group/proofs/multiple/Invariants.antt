@@ -1,9 +1,6 @@
-use Rattle.std.proofs.Common.{◌≡◌, ◌≤◌}
+use Rattle.std.proofs.Common.{◌≡◌}
 use Rattle.group.proofs.Logs.{above}
 use Rattle.group.proofs.multiple.Given as goal
 
 abbrev pub invariant-loop-place : goal.invariant-loop-place
-invariant-loop-place g l = (l.place ≤ 16) × (l.r ≡ above g.G.Group.model l.s l.p l.place)
-
-abbrev pub decreases-loop-place : goal.decreases-loop-place
-decreases-loop-place g l = l.place
+invariant-loop-place g l = l.r ≡ above g.G.Group.model l.s l.p l.place
