@@ -11,7 +11,8 @@
 // output is in `script`, `desk`, `counter` and `text`.
 #![tactic(auto)]
 
-use chained::ChainedBook;
+use book::Layout;
+use chained::{Chained, ChainedBook};
 use client::Pending;
 use counter::Counter;
 use desk::{Desk, Empty};
@@ -24,7 +25,7 @@ use script::session::Session;
 use script::tasks::Task;
 use std::io;
 use std::io::{BufRead, BufReader, ErrorKind, Write};
-use tape::TapeBook;
+use tape::{Tape, TapeBook};
 
 // Prints the line of a report.
 fn print(rt: &HostRuntime, report: &Report) -> io::Result<()> {
@@ -140,7 +141,7 @@ fn open(
     let below = at.saturating_add(1);
     match shelf {
         Shelf::Tape => {
-            let capacity = tape::capacity_in(memory.len());
+            let capacity = Tape::capacity_in(memory.len());
             print_book(rt, capacity)?;
             match capacity {
                 Ok(capacity) => {
@@ -156,7 +157,7 @@ fn open(
             }
         }
         Shelf::Chained => {
-            let capacity = chained::capacity_in(memory.len());
+            let capacity = Chained::capacity_in(memory.len());
             print_book(rt, capacity)?;
             match capacity {
                 Ok(capacity) => {

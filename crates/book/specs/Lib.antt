@@ -2,3 +2,5 @@ pub mod Meaning
 pub mod Runs
 pub mod Laws
 pub mod Making
+pub mod Words
+pub mod Rooms

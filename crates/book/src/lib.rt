@@ -14,6 +14,11 @@ ghost use Rattle.book.specs.Laws.{ToldAlike, SizeCounts, MarkAnswers, MarkCounts
 
 use faults::BookFault;
 
+mod layout;
+pub mod words;
+
+pub use layout::{Layout, records_in};
+
 pub trait Book {
     // What the book means. That no pair is in it twice, that the size is at most the capacity, and that the
     // capacity is at least 1, are fields of the meaning: a kind cannot give one without showing them.

@@ -7,11 +7,11 @@ ghost use Rattle.std.specs.Prelude.{◌≡◌};
 
 #[cfg(test)]
 mod tests {
-    use book::{Book, Work, one_place};
-    use chained::ChainedBook;
+    use book::{Book, Layout, Work, one_place};
+    use chained::{Chained, ChainedBook};
     use faults::{BookFault, WireFault};
     use std::test::Fail;
-    use tape::TapeBook;
+    use tape::{Tape, TapeBook};
 
     // One place with a pair in it, and three later bytes.
     #[rattlefmt::skip]
@@ -24,7 +24,7 @@ mod tests {
     #[test]
     fn tape_lies_as_drawn(rt: HostRuntime) -> Result<(), Fail> {
         let mut memory = [0xee; 39];
-        let capacity = tape::capacity_in(39)?;
+        let capacity = Tape::capacity_in(39)?;
         let mut book = TapeBook::over(&mut memory, capacity);
         book.mark(0x0102, &[7; 32])?;
         assert_eq!(rt; book.memory(), TAPE.as_slice());
@@ -34,7 +34,7 @@ mod tests {
     #[test]
     fn tape_one_place_as_worked(rt: HostRuntime) -> Result<(), Fail> {
         let mut memory = [0xee; 69];
-        let capacity = tape::capacity_in(69)?;
+        let capacity = Tape::capacity_in(69)?;
         let mut book = TapeBook::over(&mut memory, capacity);
         let told = one_place(&mut book, &[1; 32], &[2; 32]);
         assert_eq!(rt; told.first, Ok(()));
@@ -68,7 +68,7 @@ mod tests {
     #[test]
     fn chained_lies_as_drawn(rt: HostRuntime) -> Result<(), Fail> {
         let mut memory = [0xee; 242];
-        let capacity = chained::capacity_in(242)?;
+        let capacity = Chained::capacity_in(242)?;
         let mut book = ChainedBook::over(&mut memory, capacity);
         let mut third = [9; 32];
         third[31] = 71;
@@ -83,7 +83,7 @@ mod tests {
     #[test]
     fn chained_one_place_as_worked(rt: HostRuntime) -> Result<(), Fail> {
         let mut memory = [0xee; 203];
-        let capacity = chained::capacity_in(203)?;
+        let capacity = Chained::capacity_in(203)?;
         let mut book = ChainedBook::over(&mut memory, capacity);
         let told = one_place(&mut book, &[1; 32], &[2; 32]);
         assert_eq!(rt; told.first, Ok(()));
@@ -111,14 +111,14 @@ mod tests {
     #[test]
     fn short_memory_is_refused(rt: HostRuntime) {
         assert_eq!(rt;
-            tape::with_book(&mut [0; 35], Ask),
+            Tape::with_book(&mut [0; 35], Ask),
             Err(WireFault::WrongLength)
         );
-        assert_eq!(rt; tape::with_book(&mut [0; 36], Ask), Ok(1));
+        assert_eq!(rt; Tape::with_book(&mut [0; 36], Ask), Ok(1));
         assert_eq!(rt;
-            chained::with_book(&mut [0; 167], Ask),
+            Chained::with_book(&mut [0; 167], Ask),
             Err(WireFault::WrongLength)
         );
-        assert_eq!(rt; chained::with_book(&mut [0; 204], Ask), Ok(2));
+        assert_eq!(rt; Chained::with_book(&mut [0; 204], Ask), Ok(2));
     }
 }

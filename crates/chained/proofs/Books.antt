@@ -15,7 +15,9 @@ use Rattle.chains.proofs.Meanings.{found, marked_chains, dropped_chains}
 use Rattle.std.proofs.lemmas.Bool.{cases_lt, lt-ltb, le-ltb, cond-true, cond-false}
 use Rattle.faults.specs.declared.WireFault.{WireFault}
 use Rattle.faults.specs.declared.WireFault.TheVariants.{WrongLength}
-use Rattle.chained.specs.Layout.{room, room_in, RoomIn, Bytes, table_of, image, later}
+use Rattle.book.specs.Words.{Bytes}
+use Rattle.book.specs.Rooms.{room}
+use Rattle.chained.specs.Layout.{room_in, RoomIn, table_of, image, later}
 use Rattle.chained.specs.Facts.{room_fits, places_is}
 use Rattle.chained.specs.Laws.{marked_image}
 use Rattle.chained.proofs.Images.{one_image}
@@ -30,9 +32,6 @@ module _ (cap cap' : ℕ) (m m' : List ℕ) (t : Table) (room : RoomIn (length m
 
   pub after_table : table_of cap m' ≡ t
   after_table = ap (λ c. table_of c m') (sym after_capacity) ∙ is
-
-  pub after_sound : Sound t → Sound (table_of cap m')
-  after_sound s = subst Sound (sym after_table) s
 
   pub after_image : later m' cap' ≡ later m cap → m' ≡ image t (later m cap)
   after_image l =
@@ -57,12 +56,12 @@ pub room_of : (len cap : ℕ) → room_in len ≡ Ok cap → RoomIn len cap
 room_of len cap is =
     ⊎_elim
     (λ (short : len < 168).
-    let none : room_in len ≡ Err WrongLength = cond-true (ltb len 168) (Err WrongLength) (Ok (room len)) (lt-ltb len 168 short) in
+    let none : room_in len ≡ Err WrongLength = cond-true (ltb len 168) (Err WrongLength) (Ok (room 132 36 len)) (lt-ltb len 168 short) in
     let z : ◌≡◌ {A = ℕ} 0 1 = cc in
     absurd (omega arith))
     (λ (long : 168 ≤ len).
-    let some : room_in len ≡ Ok (room len) = cond-false (ltb len 168) (Err WrongLength) (Ok (room len)) (le-ltb len 168 long) in
-    (long, same (Ok (room len)) cap (room len) (sym some ∙ is) refl))
+    let some : room_in len ≡ Ok (room 132 36 len) = cond-false (ltb len 168) (Err WrongLength) (Ok (room 132 36 len)) (le-ltb len 168 long) in
+    (long, same (Ok (room 132 36 len)) cap (room 132 36 len) (sym some ∙ is) refl))
     (cases_lt len 168)
   where
     same : (r : Result ℕ WireFault) (a b : ℕ) → r ≡ Ok a → r ≡ Ok b → a ≡ b

@@ -1,23 +1,12 @@
 -- Which bytes a part of the table rests on. Assumes nothing.
 use Rattle.std.proofs.Common.{◌≡◌, ℕ, zero, suc, ◌+◌, ◌-◌, ◌*◌, ◌<◌, ◌≤◌, ◌⊎◌, List, map, length, get_or, take, drop, set, sym, refl, ap, ◌∙◌, subst, inl, inr, ⊎_elim, arith, rules}
-use borrow.Rule.Slice.PartMut.{put_mid}
 use Rattle.std.specs.List.{range_with_len}
 use Rattle.std.proofs.lemmas.Bool.{cases_eq, cases_lt}
 use Rattle.std.proofs.lemmas.List.{places, length-set, length-drop, length-take-le, get_or-set_same, get_or-set_other, get_or-take, get_or-drop, get_or_default, get_or_past, same_lists, set_past}
 use Rattle.std.proofs.lemmas.List.FromFn.{length-map-range_with_len, get_or-map-range_with_len}
 use Rattle.chains.specs.Tables.{Entry, blank, entry, put}
-use Rattle.chained.specs.Layout.{word, place, record_at, table_of}
-
--- ---- a write to a part of a slice
-pub put_outside : (m ys : List ℕ) (a k j : ℕ) → a + k ≤ length m → length ys ≡ k → (j < a) ⊎ (a + k ≤ j) → get_or (put_mid a k m ys) j 0 ≡ get_or m j 0
-put_outside m ys a k j h l (inl lt) = search (rules, places)
-put_outside m ys a k j h l (inr le) = search (rules, places)
-
-pub put_inside : (m ys : List ℕ) (a k j : ℕ) → a + k ≤ length m → length ys ≡ k → a ≤ j → j < a + k → get_or (put_mid a k m ys) j 0 ≡ get_or ys (j - a) 0
-put_inside m ys a k j h l lo hi = search (rules, places)
-
-pub put_length : (m ys : List ℕ) (a k : ℕ) → a + k ≤ length m → length ys ≡ k → length (put_mid a k m ys) ≡ length m
-put_length m ys a k h l = search (rules, places)
+use Rattle.book.specs.Words.{word}
+use Rattle.chained.specs.Layout.{place, record_at, table_of}
 
 -- ---- one record
 pub length_nonce : (m : List ℕ) (at : ℕ) → at + 32 ≤ length m → length (take 32 (drop at m)) ≡ 32

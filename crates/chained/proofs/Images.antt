@@ -2,7 +2,8 @@
 use Rattle.std.proofs.Common.{◌≡◌, ℕ, zero, suc, ◌+◌, ◌*◌, ◌/◌, ◌%◌, ◌<◌, ◌≤◌, List, [], ◌∷◌, ◌++◌, map, length, get_or, take, drop, sym, refl, ap, ◌∙◌, arith}
 use Rattle.std.specs.List.{range_with_len, flat_map}
 use Rattle.std.proofs.lemmas.List.{drop_more, drop-drop, take-append-drop}
-use Rattle.chained.specs.Layout.{word, place, two, record_of, record_at, table_of, image, Bytes}
+use Rattle.book.specs.Words.{word, two, Bytes}
+use Rattle.chained.specs.Layout.{place, record_of, record_at, table_of, image}
 use Rattle.chained.specs.Laws.{OneImage}
 
 -- ---- lists cut into parts

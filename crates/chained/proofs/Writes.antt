@@ -2,7 +2,8 @@
 use Rattle.std.proofs.Common.{◌≡◌, ℕ, ◌+◌, ◌-◌, ◌*◌, ◌<◌, ◌≤◌, ◌⊎◌, List, length, get_or, take, drop, set, replicate, sym, refl, ap, ◌∙◌, subst, inl, inr, ⊎_elim, arith}
 use Rattle.std.proofs.lemmas.List.{length-replicate, get_or_past, get_or-replicate, same_lists, set_past}
 use Rattle.chains.specs.Tables.{Entry, Table, blank, entry, put, at, head, with_head, with_size, with_entry, with_next, zeroed}
-use Rattle.chained.specs.Layout.{word, place, record_at, table_of, Bytes, Written}
+use Rattle.book.specs.Words.{word, Bytes}
+use Rattle.chained.specs.Layout.{place, record_at, table_of, Written}
 use Rattle.chained.proofs.Frames.{length_nonce, nonce_get_or, nonce_kept, word_kept, heads_of, records_of, table_is, length_heads, length_records, heads_at, records_at, heads_kept, heads_set, records_kept, records_set, later_kept, put_number, entry_number, put_none, entry_none}
 
 -- ---- reads

@@ -10,13 +10,13 @@ use Rattle.chained.specs.Facts.{some_places, few_places}
 
 -- the table in its memory
 abbrev pub table_in : ChainedBook → Table
-table_in b = table_of b.capacity b.memory.now
+table_in b = table_of b.rows.capacity b.rows.memory.now
 
-pub sound_in : (b : ChainedBook) → Sound (table_of b.capacity b.memory.now)
+pub sound_in : (b : ChainedBook) → Sound (table_of b.rows.capacity b.rows.memory.now)
 sound_in b = (b.shaped, b.ended, b.within, b.placed, b.unfree, (b.epochless, b.nonceless), b.counted, b.apart)
 
 -- the pairs in its chains, and its capacity
 abbrev pub meaning_of : ChainedBook → Meaning
 meaning_of b =
-    let m = b.memory.now in
-    meant (table_of b.capacity m) (sound_in b) (some_places b.capacity (length m) m b.room) (few_places b.capacity (length m) m b.room)
+    let m = b.rows.memory.now in
+    meant (table_of b.rows.capacity m) (sound_in b) (some_places b.rows.capacity (length m) m b.rows.room) (few_places b.rows.capacity (length m) m b.rows.room)

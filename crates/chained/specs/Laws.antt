@@ -5,13 +5,8 @@ use Rattle.faults.specs.declared.WireFault.{WireFault}
 use Rattle.faults.specs.declared.WireFault.TheVariants.{WrongLength}
 use Rattle.book.specs.Meaning.{Pair}
 use Rattle.chains.specs.Tables.{marked}
-use Rattle.chained.specs.Layout.{room_in, place, table_of, image, later, Bytes}
-
--- The capacity is the largest number of whole records, up to 1,024, and memory is refused just where it
--- holds none.
-abbrev pub Most : ℕ → Result ℕ WireFault → Type 0
-Most len (Ok n) = (1 ≤ n) × (n ≤ 1024) × (place n ≤ len) × (n < 1024 → len < place (n + 1))
-Most len (Err f) = (len < place 1) × (f ≡ WrongLength)
+use Rattle.book.specs.Words.{Bytes}
+use Rattle.chained.specs.Layout.{room_in, place, table_of, image, later}
 
 -- Capacities worked out: 204 bytes have two places, 203 and 168 have one, 167 are refused; 36,996 have the most.
 abbrev pub Capacities : Type 0

@@ -3,28 +3,22 @@
 use Rattle.std.specs.Prelude.{◌≡◌, ℕ, ◌+◌, ◌-◌, ◌*◌, ◌/◌, ◌%◌, ◌<◌, ◌≤◌, min, cond, List, [], ◌∷◌, ◌++◌, map, take, drop, Ok, Err, Result, nat_lt, slice_index}
 use Rattle.std.specs.List.{range_with_len, flat_map}
 use Rattle.faults.specs.declared.WireFault.{WireFault}
-use Rattle.faults.specs.declared.WireFault.TheVariants.{WrongLength}
+use Rattle.book.specs.Rooms as rooms
+use Rattle.book.specs.Words.{two, word, Bytes}
 use Rattle.chains.specs.Tables.{Entry, Table}
 
 -- ---- capacity
 
--- as many records as fit behind the heads and the size, at most 1,024
-abbrev pub room : ℕ → ℕ
-room len = min 1024 ((len - 132) / 36)
-
--- memory without a whole record is refused
+-- as many records as fit behind the heads and the size, at most 1,024; memory without a whole record is
+-- refused
 abbrev pub room_in : ℕ → Result ℕ WireFault
-room_in len = cond (nat_lt len 168) (Err WrongLength) (Ok (room len))
+room_in len = rooms.room_in 132 36 len
 
 -- memory of this length has a whole record, and this is its capacity
 abbrev pub RoomIn : ℕ → ℕ → Type 0
-RoomIn len cap = (168 ≤ len) × (cap ≡ room len)
+RoomIn len cap = rooms.RoomIn 132 36 len cap
 
 -- ---- writing
-
--- a number in two bytes, the higher first
-abbrev pub two : ℕ → List ℕ
-two n = n / 256 ∷ n % 256 ∷ []
 
 -- a record: next, epoch, nonce
 abbrev pub record_of : Entry → List ℕ
@@ -35,10 +29,6 @@ unfoldable pub image : Table → List ℕ → List ℕ
 image t later = flat_map two t.heads ++ (two t.size ++ (flat_map record_of t.entries ++ later))
 
 -- ---- reading
-
--- two bytes as a number
-abbrev pub word : List ℕ → ℕ → ℕ
-word m at = slice_index m at * 256 + slice_index m (at + 1)
 
 -- where the record of number i + 1 begins
 abbrev pub place : ℕ → ℕ
@@ -60,13 +50,9 @@ table_of cap m = record {
 abbrev pub later : List ℕ → ℕ → List ℕ
 later m cap = drop (place cap) m
 
--- ---- what holds of the memory at all times
+-- ---- what a write leaves
 
--- it is made of bytes
-abbrev pub Bytes : List ℕ → Type 0
-Bytes m = (k : ℕ) → slice_index m k < 256
-
--- what a write leaves: this table and the later bytes
+-- this table, the later bytes, and bytes
 pub record Written (cap : ℕ) (before after : List ℕ) (t : Table) : Type 0 where
   pub table : table_of cap after ≡ t
   pub later : drop (place cap) after ≡ drop (place cap) before

@@ -11,10 +11,8 @@
 // records; this one has their layout in bytes. A station is made over it as over any other book.
 #![tactic(auto)]
 
-mod bytes;
 mod chained_book;
+mod nonces;
 mod rows;
 
-pub use chained_book::{
-    ChainedBook, capacities_are_worked, capacity_in, memory_is_the_image, with_book,
-};
+pub use chained_book::{Chained, ChainedBook, capacities_are_worked, memory_is_the_image};

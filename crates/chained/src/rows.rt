@@ -1,6 +1,7 @@
 // The records of a chained book, row by row in lent memory.
-ghost use Rattle.std.specs.Prelude.{◌≤◌, length};
-ghost use Rattle.chained.specs.Layout.{RoomIn, Bytes};
+ghost use Rattle.std.specs.Prelude.{length};
+ghost use Rattle.book.specs.Words.{Bytes};
+ghost use Rattle.chained.specs.Layout.{RoomIn};
 
 #[derive(Drop)]
 pub struct Rows<'a> {
@@ -13,3 +14,5 @@ pub struct Rows<'a> {
 }
 
 mod records;
+
+pub use records::{HEAD, RECORD, wipe};

@@ -87,13 +87,14 @@ pub fn find<R: Records>(records: &R, epoch: u16, nonce: &[u8; 32]) -> bool
     ensures { Decides result (Chained (R.table records.now) (epoch, nonce.now)) }
 {
     let mut number = records.head(chain_of(nonce));
-    let mut steps = records.places();
-    while number != 0 && steps > 0 {
+    for _ in 0..records.places() {
+        if number == 0 {
+            return false;
+        }
         if records.holds(number, epoch, nonce) {
             return true;
         }
         number = records.next(number);
-        steps -= 1;
     }
     false
 }
@@ -164,8 +165,10 @@ fn sweep<R: RecordsMut>(records: &mut R, epoch: u16, chain: u8)
 {
     let mut before = 0;
     let mut number = records.head(chain);
-    let mut left = records.places();
-    while number != 0 && left > 0 {
+    for _ in 0..records.places() {
+        if number == 0 {
+            return;
+        }
         let next = records.next(number);
         if records.epoch(number) == epoch {
             bridge(records, chain, before, next);
@@ -174,7 +177,6 @@ fn sweep<R: RecordsMut>(records: &mut R, epoch: u16, chain: u8)
             before = number;
         }
         number = next;
-        left -= 1;
     }
 }
 

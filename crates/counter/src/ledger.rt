@@ -9,7 +9,8 @@ ghost use Rattle.script.specs.Protocol.{served_of};
 ghost use Rattle.counter.specs.Ledgers.{lent, lent_of, seen, places_in, standing, grown, LawfulIn, Replayed, Says, ServesAt, KeepsCall};
 
 use crate::orders::Buffers;
-use book::{Book, Work};
+use book::{Book, Layout, Work};
+use chained::Chained;
 use circ523::Point;
 use commands::Kind;
 use faults::{Fault, Refusal, WireFault};
@@ -20,6 +21,7 @@ use script::errors::LineFault;
 use script::protocol::Service;
 use script::reading::Shelf;
 use std::alloc::{AllocError, Global};
+use tape::Tape;
 
 // A call that a line made, with the lengths of the buffers that it was lent.
 #[derive(Drop)]
@@ -125,8 +127,8 @@ fn over(
     ensures { Worked (λ b a. Replayed replay.entry.kind replay.entry.calls.now b.capacity a) (places_in shelf (length memory.old)) result }
 {
     match shelf {
-        Shelf::Tape => tape::with_book(memory, replay),
-        Shelf::Chained => chained::with_book(memory, replay),
+        Shelf::Tape => Tape::with_book(memory, replay),
+        Shelf::Chained => Chained::with_book(memory, replay),
     }
 }
 

@@ -13,6 +13,8 @@ ghost use Rattle.counter.specs.Counters.{lengths_after, Answered, Founded, Stati
 ghost use Rattle.counter.specs.Ledgers.{places_in, stands};
 ghost use Rattle.counter.specs.Orders.{waiting};
 
+use book::Layout;
+use chained::Chained;
 use client::Pending;
 use commands::Kind;
 use faults::{Fault, Refusal};
@@ -24,6 +26,7 @@ use script::errors::LineFault;
 use script::protocol::Action;
 use script::reading::{ROOM, Shelf};
 use std::alloc::Global;
+use tape::Tape;
 
 pub mod ledger;
 pub mod orders;
@@ -70,8 +73,8 @@ impl Counter {
         ensures station { Founded kind (places_in shelf length) (stands self.new.ledger) (outcome_of result) }
     {
         let capacity = match shelf {
-            Shelf::Tape => tape::capacity_in(length),
-            Shelf::Chained => chained::capacity_in(length),
+            Shelf::Tape => Tape::capacity_in(length),
+            Shelf::Chained => Chained::capacity_in(length),
         };
         match capacity {
             Ok(_) => {

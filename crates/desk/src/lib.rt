@@ -101,13 +101,7 @@ impl<'a> Shown for ChainedBook<'a> {
     }
 }
 
-impl<'a> Desk for TapeBook<'a> {
-    fn answer(&mut self, call: &Call, heap: Global) -> Result<Result<Answer, Refusal>, LineFault> {
-        ask(self, call, heap)
-    }
-}
-
-impl<'a> Desk for ChainedBook<'a> {
+impl<B: Shown> Desk for B {
     fn answer(&mut self, call: &Call, heap: Global) -> Result<Result<Answer, Refusal>, LineFault> {
         ask(self, call, heap)
     }

@@ -3,19 +3,22 @@
 #![tactic(auto)]
 
 ghost use Rattle.std.specs.Prelude.{◌≡◌, ◌*◌, ◌/◌, ◌<◌, ◌≤◌, length, drop};
+ghost use Rattle.std.specs.Result.{OnErr};
 ghost use Rattle.circ523.specs.Kind.{points};
 ghost use Rattle.res2039.specs.Kind.{residues};
 ghost use Rattle.speed.specs.Answers.{digest_status, digest_out, issued_out};
 ghost use Rattle.speed.specs.Products.{product, product_status, product_out};
 
-use book::{Book, Work};
+use book::{Book, Layout, Work};
+use chained::Chained;
 use circ523::Point;
 use clients::{Order, orders};
 use digest::digest;
 use faults::{Fault, GroupFault, WireFault};
 use group::{Group, multiple};
 use res2039::Residue;
-use stations::{Issued, Issues, REPLY, redeemed_chained, redeemed_tape};
+use stations::{Issued, Issues, REPLY, redeemed};
+use tape::Tape;
 
 mod clients;
 mod stations;
@@ -127,7 +130,21 @@ fn found_in<B: Book>(book: &B, sought: &[u8]) -> u32
     found
 }
 
-// How many look-ups found their pair in a chained book that is made over the memory; 0 where it holds none.
+// How many look-ups found their pair in a book of a kind that is made over the memory; 0 where it holds none.
+fn look_ups<L: Layout>(memory: &mut [u8], marked: &[u8], sought: &[u8], rounds: u32) -> u32
+    ensures most { result ≤ rounds * (length sought.now / 32) }
+    ensures none { OnErr (L.room (length memory.old)) (result ≡ 0) }
+    ensures stays { OnErr (L.room (length memory.old)) (memory.new ≡ memory.old) }
+{
+    let work = LookUps {
+        marked,
+        sought,
+        rounds,
+    };
+    L::with_book(memory, work).unwrap_or(0)
+}
+
+// In a chained book.
 #[unsafe(no_mangle)]
 pub extern "C" fn dilkortxi_chained_look_ups(
     memory: &mut [u8],
@@ -139,15 +156,10 @@ pub extern "C" fn dilkortxi_chained_look_ups(
     ensures none { length memory.old < 168 → result ≡ 0 }
     ensures stays { length memory.old < 168 → memory.new ≡ memory.old }
 {
-    let work = LookUps {
-        marked,
-        sought,
-        rounds,
-    };
-    chained::with_book(memory, work).unwrap_or(0)
+    look_ups::<Chained>(memory, marked, sought, rounds)
 }
 
-// The same in a tape.
+// In a tape.
 #[unsafe(no_mangle)]
 pub extern "C" fn dilkortxi_tape_look_ups(
     memory: &mut [u8],
@@ -159,12 +171,7 @@ pub extern "C" fn dilkortxi_tape_look_ups(
     ensures none { length memory.old < 36 → result ≡ 0 }
     ensures stays { length memory.old < 36 → memory.new ≡ memory.old }
 {
-    let work = LookUps {
-        marked,
-        sought,
-        rounds,
-    };
-    tape::with_book(memory, work).unwrap_or(0)
+    look_ups::<Tape>(memory, marked, sought, rounds)
 }
 
 // How many redemptions a station over a chained book accepts in so many rounds; 0 where the memory holds no book.
@@ -179,7 +186,7 @@ pub extern "C" fn dilkortxi_res2039_chained_redemptions(
     ensures none { length memory.old < 168 → result ≡ 0 }
     ensures stays { length memory.old < 168 → memory.new ≡ memory.old }
 {
-    redeemed_chained::<Residue>(memory, key, tokens, rounds)
+    redeemed::<Chained, Residue>(memory, key, tokens, rounds)
 }
 
 // The same over a tape.
@@ -194,7 +201,7 @@ pub extern "C" fn dilkortxi_res2039_tape_redemptions(
     ensures none { length memory.old < 36 → result ≡ 0 }
     ensures stays { length memory.old < 36 → memory.new ≡ memory.old }
 {
-    redeemed_tape::<Residue>(memory, key, tokens, rounds)
+    redeemed::<Tape, Residue>(memory, key, tokens, rounds)
 }
 
 // Both in circ523.
@@ -209,7 +216,7 @@ pub extern "C" fn dilkortxi_circ523_chained_redemptions(
     ensures none { length memory.old < 168 → result ≡ 0 }
     ensures stays { length memory.old < 168 → memory.new ≡ memory.old }
 {
-    redeemed_chained::<Point>(memory, key, tokens, rounds)
+    redeemed::<Chained, Point>(memory, key, tokens, rounds)
 }
 
 #[unsafe(no_mangle)]
@@ -223,7 +230,7 @@ pub extern "C" fn dilkortxi_circ523_tape_redemptions(
     ensures none { length memory.old < 36 → result ≡ 0 }
     ensures stays { length memory.old < 36 → memory.new ≡ memory.old }
 {
-    redeemed_tape::<Point>(memory, key, tokens, rounds)
+    redeemed::<Tape, Point>(memory, key, tokens, rounds)
 }
 
 // The last reply goes to the front of `out`, which must have room for the longest; 0 where it has not.
@@ -264,7 +271,7 @@ fn issued<G: Group>(
         nonce,
         rounds,
     };
-    match tape::with_book(memory, work) {
+    match Tape::with_book(memory, work) {
         Ok(issued) => told_issued(issued, out),
         Err(_) => 0,
     }

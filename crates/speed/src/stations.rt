@@ -1,7 +1,8 @@
 // A station at work: redemptions and issues, round after round, on a fresh station over a book.
-ghost use Rattle.std.specs.Prelude.{◌≡◌, ◌*◌, ◌/◌, ◌<◌, ◌≤◌, length};
+ghost use Rattle.std.specs.Prelude.{◌≡◌, ◌*◌, ◌/◌, ◌≤◌, length};
+ghost use Rattle.std.specs.Result.{OnErr};
 
-use book::{Book, Work};
+use book::{Book, Layout, Work};
 use group::Group;
 use station::Station;
 
@@ -58,11 +59,16 @@ fn accepted_of<G: Group, B: Book>(
     accepted
 }
 
-// How many redemptions a station over a chained book accepts; 0 where the memory holds no book.
-pub fn redeemed_chained<G: Group>(memory: &mut [u8], key: &[u8], tokens: &[u8], rounds: u32) -> u32
+// How many redemptions a station over a book of a kind accepts; 0 where the memory holds no book.
+pub fn redeemed<L: Layout, G: Group>(
+    memory: &mut [u8],
+    key: &[u8],
+    tokens: &[u8],
+    rounds: u32,
+) -> u32
     ensures most { result ≤ rounds * (length tokens.now / 132) }
-    ensures none { length memory.old < 168 → result ≡ 0 }
-    ensures stays { length memory.old < 168 → memory.new ≡ memory.old }
+    ensures none { OnErr (L.room (length memory.old)) (result ≡ 0) }
+    ensures stays { OnErr (L.room (length memory.old)) (memory.new ≡ memory.old) }
 {
     let work = Redemptions {
         group: G::null(),
@@ -70,22 +76,7 @@ pub fn redeemed_chained<G: Group>(memory: &mut [u8], key: &[u8], tokens: &[u8], 
         tokens,
         rounds,
     };
-    chained::with_book(memory, work).unwrap_or(0)
-}
-
-// The same over a tape.
-pub fn redeemed_tape<G: Group>(memory: &mut [u8], key: &[u8], tokens: &[u8], rounds: u32) -> u32
-    ensures most { result ≤ rounds * (length tokens.now / 132) }
-    ensures none { length memory.old < 36 → result ≡ 0 }
-    ensures stays { length memory.old < 36 → memory.new ≡ memory.old }
-{
-    let work = Redemptions {
-        group: G::null(),
-        key,
-        tokens,
-        rounds,
-    };
-    tape::with_book(memory, work).unwrap_or(0)
+    L::with_book(memory, work).unwrap_or(0)
 }
 
 // The longest reply has 5 bytes, 16 codes of 8 bytes and two scalars of 2.

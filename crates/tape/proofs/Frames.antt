@@ -1,11 +1,11 @@
 -- Records of a tape whose bytes are the same.
-use Rattle.std.proofs.Common.{◌≡◌, ℕ, ◌+◌, ◌-◌, ◌<◌, ◌≤◌, ◌⊎◌, List, [], length, get_or, take, drop, sym, ◌∙◌, inl, inr, add-zero, add_assoc, arith, rules}
+use Rattle.std.proofs.Common.{◌≡◌, ℕ, ◌+◌, ◌-◌, ◌<◌, ◌≤◌, ◌⊎◌, List, [], length, get_or, take, drop, sym, ◌∙◌, add-zero, add_assoc, arith}
 use Rattle.std.specs.List.{ContainsAt as Has}
-use borrow.Rule.Slice.PartMut.{put_mid}
-use Rattle.std.proofs.lemmas.List.{places, same_lists, length-take-le, length-drop, get_or-take, get_or-drop, get_or_default}
+use Rattle.std.proofs.lemmas.List.{same_lists, length-take-le, length-drop, get_or-take, get_or-drop, get_or_default}
 use Rattle.std.proofs.lemmas.List.FromFn.{length-map-range_with_len, get_or-map-range_with_len, fill_by_all}
 use Rattle.book.specs.Meaning.{Pair}
-use Rattle.tape.specs.Layout.{word, place, pair_at, firsts}
+use Rattle.book.specs.Words.{word}
+use Rattle.tape.specs.Layout.{place, pair_at, firsts}
 
 pub pair_is : (m : List ℕ) (at e : ℕ) (n : List ℕ) → word m at ≡ e → take 32 (drop (at + 2) m) ≡ n → ◌≡◌ {A = Pair} (pair_at m at) (e, n)
 pair_is m at e n p q = cc
@@ -57,11 +57,3 @@ pub firsts_has_not : (m : List ℕ) (c : ℕ) (p : Pair) → ((i : ℕ) → i < 
 firsts_has_not m c p none h =
     let b : h.0 < c = omega (arith, h.1, length-map-range_with_len (λ j. pair_at m (place j)) 0 c) in
     none h.0 b (sym (get_or-map-range_with_len (λ j. pair_at m (place j)) 0 c h.0 h.0 p b (omega arith)) ∙ h.2 p)
-
--- what a write to a part leaves
-pub put_outside : (m ys : List ℕ) (a k j : ℕ) → a + k ≤ length m → length ys ≡ k → (j < a) ⊎ (a + k ≤ j) → get_or (put_mid a k m ys) j 0 ≡ get_or m j 0
-put_outside m ys a k j h l (inl lt) = search (rules, places)
-put_outside m ys a k j h l (inr le) = search (rules, places)
-
-pub put_inside : (m ys : List ℕ) (a k j : ℕ) → a + k ≤ length m → length ys ≡ k → a ≤ j → j < a + k → get_or (put_mid a k m ys) j 0 ≡ get_or ys (j - a) 0
-put_inside m ys a k j h l lo hi = search (rules, places)

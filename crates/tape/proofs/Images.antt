@@ -1,17 +1,13 @@
 -- That memory is the image of its pairs, and what follows from that. Assumes nothing.
-use Rattle.std.proofs.Common.{◌≡◌, ℕ, zero, suc, ◌+◌, ◌-◌, ◌*◌, ◌/◌, ◌%◌, ◌<◌, ◌≤◌, List, [], ◌∷◌, ◌++◌, length, get_or, take, drop, replicate, sym, refl, ap, ◌∙◌, add-one, arith, w8, Fits}
-use mir.Facts.{Fits-lt-pow}
+use Rattle.std.proofs.Common.{◌≡◌, ℕ, zero, suc, ◌+◌, ◌-◌, ◌*◌, ◌/◌, ◌%◌, ◌<◌, ◌≤◌, List, [], ◌∷◌, ◌++◌, length, get_or, take, drop, replicate, sym, refl, ap, ◌∙◌, add-one, arith}
 use Rattle.std.specs.List.{flat_map, AllByRecursion}
 use Rattle.std.proofs.lemmas.Nat.{div-mul-add, mod-mul-add}
 use Rattle.std.proofs.lemmas.List.{append_assoc, same_lists, drop_more, drop-drop, drop_at, take-append-drop, length-append, length-take-le, length-drop, length-replicate, get_or-take, get_or-drop, get_or_default, get_or_append_left, get_or-replicate, flat_map_more}
 use Rattle.std.proofs.lemmas.List.FromFn.{map-range_with_len_more}
 use Rattle.book.specs.Meaning.{Pair, Shaped}
-use Rattle.tape.specs.Layout.{two, record_of, image, word, place, pair_at, firsts, pairs_of, later, Fitting, Laid}
+use Rattle.book.specs.Words.{two, word, Bytes}
+use Rattle.tape.specs.Layout.{record_of, image, place, pair_at, firsts, pairs_of, later, Fitting, Laid}
 use Rattle.tape.specs.Facts.{size_is, pairs_shaped}
-
--- every element fits a byte, as is known of a slice of bytes
-abbrev pub Bytes : List ℕ → Type 0
-Bytes m = (k : ℕ) → Fits w8 (get_or m k 0)
 
 -- the places behind the last record are zero
 abbrev pub Blank : List ℕ → ℕ → Type 0
@@ -20,8 +16,8 @@ Blank m cap = (k : ℕ) → place (word m 0) ≤ k → k < place cap → get_or 
 -- ---- from the bytes to the image
 two_at : (m : List ℕ) (at : ℕ) → at + 1 < length m → Bytes m → drop at m ≡ two (word m at) ++ drop (at + 2) m
 two_at m at h b =
-    let high : word m at / 256 ≡ get_or m at 0 = div-mul-add (get_or m at 0) 256 (get_or m (at + 1) 0) (Fits-lt-pow (b (at + 1))) in
-    let low : word m at % 256 ≡ get_or m (at + 1) 0 = mod-mul-add (get_or m at 0) 256 (get_or m (at + 1) 0) (Fits-lt-pow (b (at + 1))) in
+    let high : word m at / 256 ≡ get_or m at 0 = div-mul-add (get_or m at 0) 256 (get_or m (at + 1) 0) (b (at + 1)) in
+    let low : word m at % 256 ≡ get_or m (at + 1) 0 = mod-mul-add (get_or m at 0) 256 (get_or m (at + 1) 0) (b (at + 1)) in
     let first = drop_more m at 0 (omega arith) in
     let second = drop_more m (at + 1) 0 h in
     let on : at + 1 + 1 ≡ at + 2 = omega arith in

@@ -1,10 +1,15 @@
 -- That an image is read back as the pairs that it was made of. Assumes nothing.
-use Rattle.std.proofs.Common.{◌≡◌, ℕ, suc, ◌+◌, ◌-◌, ◌*◌, ◌/◌, ◌%◌, List, [], ◌∷◌, ◌++◌, map, length, get_or, take, drop, replicate, sym, refl, ap, ◌∙◌, add-zero, arith}
-use Rattle.std.specs.List.{range_with_len, flat_map, AllByRecursion}
+use Rattle.std.proofs.Common.{◌≡◌, ℕ, zero, suc, ◌<◌, ◌≤◌, Bool, true, false, Decides, zero-add, ◌+◌, ◌-◌, ◌*◌, ◌/◌, ◌%◌, List, [], ◌∷◌, ◌++◌, map, length, get_or, take, drop, replicate, sym, refl, ap, ◌∙◌, add-zero, arith}
+use Rattle.std.specs.Bool.{MatchBool}
+use Rattle.std.specs.List.{range_with_len, flat_map, AllByRecursion, AllWithin, HoldsAt, ContainsAt as Has}
+use Rattle.std.specs.Simd.{first_chunks}
 use Rattle.std.proofs.lemmas.Nat.{div-add-mod'}
-use Rattle.std.proofs.lemmas.List.{append_assoc, drop-drop, drop_at, take_at, get_or-drop}
+use Rattle.std.proofs.lemmas.Bool.{false≢true}
+use Rattle.std.proofs.lemmas.List.{length-map, get_or-map, get_or-take, length-take-le, length-drop, append_assoc, drop-drop, drop_at, take_at, get_or-drop}
 use Rattle.book.specs.Meaning.{Pair, Shaped}
-use Rattle.tape.specs.Layout.{record_of, image, word, place, pair_at, firsts}
+use Rattle.book.specs.Words.{word}
+use Rattle.tape.specs.Layout.{record_of, image, place, pair_at, firsts}
+use Rattle.tape.proofs.Frames.{pair_moved}
 use Rattle.tape.specs.Laws.{ReadBack, OneImage}
 
 pair_read : (m rest : List ℕ) (at : ℕ) (p : Pair) → drop at m ≡ record_of p ++ rest → Shaped p → pair_at m at ≡ p
@@ -38,3 +43,37 @@ read_back ps cap rest all =
 
 pub one_image : OneImage
 one_image m n cap a b pairs rest = a.laid ∙ (λ i. image (pairs i) cap (rest i)) ∙ sym b.laid
+
+-- ---- the records as chunks of 34 bytes
+chunks_read : (k : ℕ) (xs m : List ℕ) (i : ℕ) → 34 * k ≤ length xs → place (i + k) ≤ length m → ((j : ℕ) → j < 34 * k → get_or xs j 0 ≡ get_or m (place i + j) 0)
+    → map (λ r. pair_at r 0) (first_chunks 34 k xs) ≡ map (λ j. pair_at m (place j)) (range_with_len i k)
+chunks_read zero xs m i long inside same = refl
+chunks_read (suc k) xs m i long inside same =
+    let l : 34 ≤ length (take 34 xs) = omega (arith, length-take-le 34 xs (omega arith)) in
+    let first : pair_at (take 34 xs) 0 ≡ pair_at m (place i) =
+    pair_moved m (take 34 xs) (place i) 0 (omega arith) (omega arith)
+    (λ j h. ap (λ x. get_or (take 34 xs) x 0) (zero-add j) ∙ get_or-take 34 xs j 0 h ∙ same j (omega arith)) in
+    let rest = chunks_read k (drop 34 xs) m (i + 1) (omega (arith, length-drop 34 xs)) (omega arith)
+    (λ j h. get_or-drop 34 xs j 0 ∙ same (34 + j) (omega arith) ∙ ap (λ x. get_or m x 0) (omega arith)) in
+    (λ z. first z ∷ rest z)
+
+pub records_are_chunks : (m xs : List ℕ) (n k : ℕ) → place n ≤ length m → xs ≡ take (34 * n) (drop 2 m) → k ≡ n → map (λ r. pair_at r 0) (first_chunks 34 k xs) ≡ firsts m n
+records_are_chunks m xs n k inside is same =
+    let long : length (take (34 * n) (drop 2 m)) ≡ 34 * n = length-take-le (34 * n) (drop 2 m) (omega (arith, length-drop 2 m)) in
+    (λ z. map (λ r. pair_at r 0) (first_chunks 34 (same z) (is z)))
+    ∙ chunks_read n (take (34 * n) (drop 2 m)) m 0 (omega arith) (omega arith)
+    (λ j h. get_or-take (34 * n) (drop 2 m) j 0 h ∙ get_or-drop 2 m j 0)
+
+-- some record is the pair, or none is
+pub any_has : (all : List (List ℕ)) (ps : List Pair) (p : Pair) (r : Bool) → map (λ s. pair_at s 0) all ≡ ps
+    → MatchBool r ((k : ℕ) × (k < length all) × HoldsAt (λ s. pair_at s 0 ≡ p) all k) (AllWithin (λ s. pair_at s 0 ≡ p → ⊥) all 0 (length all)) → Decides r (Has ps p)
+any_has all ps p true is some =
+    let long : length ps ≡ length all = ap length (sym is) ∙ length-map all (λ s. pair_at s 0) in (
+      λ _. (some.0, omega arith, λ d. ap (λ qs. get_or qs some.0 d) (sym is) ∙ get_or-map (λ s. pair_at s 0) all some.0 [] d some.1 ∙ some.2 []),
+      λ _. refl,
+    )
+any_has all ps p false is none =
+    let long : length ps ≡ length all = ap length (sym is) ∙ length-map all (λ s. pair_at s 0) in (
+      λ e. absurd (false≢true e),
+      λ h. absurd (none h.0 [] (omega arith) (omega (arith, h.1)) (sym (get_or-map (λ s. pair_at s 0) all h.0 [] p (omega (arith, h.1))) ∙ ap (λ qs. get_or qs h.0 p) is ∙ h.2 p)),
+    )

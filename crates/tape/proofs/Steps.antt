@@ -6,9 +6,12 @@ use Rattle.std.proofs.lemmas.List.{append-nil}
 use Rattle.std.proofs.lemmas.List.FromFn.{map-range_with_len_more, filter_of_map_range_with_len_more}
 use Rattle.book.specs.Meaning.{Pair, Apart, others}
 use Rattle.book.proofs.Sets.{apart_push, apart_kept}
-use Rattle.tape.specs.Layout.{image, word, place, pair_at, firsts, pairs_of, later, Fitting, Laid, Sound}
+use Rattle.book.specs.Words.{word, Bytes}
+use Rattle.tape.specs.Layout.{image, place, pair_at, firsts, pairs_of, later, Fitting, Laid, Sound}
+use Rattle.tape.specs.Facts.{room_fits}
+use Rattle.tape.specs.declared.tape_book.TapeBook.{TapeBook}
 use Rattle.tape.proofs.Frames.{pair_kept, pair_moved, firsts_kept}
-use Rattle.tape.proofs.Images.{Bytes, Blank, laid_from_blank, blank_from_laid, later_stays}
+use Rattle.tape.proofs.Images.{Blank, laid_from_blank, blank_from_laid, later_stays}
 
 -- ---- memory that is sound again, and its image
 module _ (m0 m : List ℕ) (cap : ℕ) (ps : List Pair)
@@ -124,3 +127,34 @@ module _ (m0 m m1 m2 : List ℕ) (cap e stay n : ℕ)
       let again = sound_again m0 m2 cap (others e (pairs_of m0)) fitting long2 bytes (omega arith) dropped_blank dropped_pairs
       (apart_kept (λ p. not (eqb p.0 e)) (pairs_of m0) sound.apart) dropped_past in
       (dropped_pairs, again.0, again.1)
+
+-- ---- the same on a book
+pub book_fits : (b : TapeBook) → Fitting b.memory.now b.capacity
+book_fits b = room_fits b.memory.now b.capacity b.room
+
+pub book_sound : (b : TapeBook) → Sound b.memory.now b.capacity
+book_sound b = record { within = b.within; apart = b.apart; laid = b.laid }
+
+pub marked_book : (b : TapeBook) (m1 m2 : List ℕ) (at n e : ℕ) (v : List ℕ) → at ≡ place n → n ≡ word b.memory.now 0 → (n ≡ b.capacity → ⊥)
+    → length m1 ≡ length b.memory.now → length m2 ≡ length b.memory.now
+    → ◌≡◌ {A = Pair} (pair_at m1 at) (e, v) → ((k : ℕ) → (k < at) ⊎ (at + 34 ≤ k) → get_or m1 k 0 ≡ get_or b.memory.now k 0)
+    → word m2 0 ≡ n + 1 → ((k : ℕ) → (k < 0) ⊎ (2 ≤ k) → get_or m2 k 0 ≡ get_or m1 k 0) → Bytes m2 → (Has (pairs_of b.memory.now) (e, v) → ⊥)
+    → (pairs_of m2 ≡ pairs_of b.memory.now ++ (e, v) ∷ []) × Sound m2 b.capacity × (m2 ≡ image (pairs_of b.memory.now ++ (e, v) ∷ []) b.capacity (later b.memory.now b.capacity))
+marked_book b m1 m2 at n e v starts size notfull long1 long2 there outside grown kept bytes new =
+    let w = b.within in
+    marked_sound b.memory.now m1 m2 b.capacity n e v size long1 long2 (omega arith) (book_fits b) (book_sound b)
+    (subst (λ x. ◌≡◌ {A = Pair} (pair_at m1 x) (e, v)) starts there)
+    (subst (λ x. (k : ℕ) → (k < x) ⊎ (x + 34 ≤ k) → get_or m1 k 0 ≡ get_or b.memory.now k 0) starts outside)
+    grown kept bytes new
+
+pub dropped_book : (b : TapeBook) (m m1 m2 : List ℕ) (e stay n from to : ℕ) → from ≡ place stay → to ≡ place n → n ≡ word b.memory.now 0
+    → length m ≡ length b.memory.now → length m2 ≡ length b.memory.now → stay ≤ n → firsts m stay ≡ others e (firsts b.memory.now n)
+    → ((k : ℕ) → place n ≤ k → get_or m k 0 ≡ get_or b.memory.now k 0)
+    → ((k : ℕ) → from ≤ k → k < to → get_or m1 k 0 ≡ 0) → ((k : ℕ) → (k < from) ⊎ (to ≤ k) → get_or m1 k 0 ≡ get_or m k 0)
+    → word m2 0 ≡ stay → ((k : ℕ) → (k < 0) ⊎ (2 ≤ k) → get_or m2 k 0 ≡ get_or m1 k 0) → Bytes m2
+    → (pairs_of m2 ≡ others e (pairs_of b.memory.now)) × Sound m2 b.capacity × (m2 ≡ image (others e (pairs_of b.memory.now)) b.capacity (later b.memory.now b.capacity))
+dropped_book b m m1 m2 e stay n from to low high size long long2 behind front rest zeros outside shrunk kept bytes =
+    dropped_sound b.memory.now m m1 m2 b.capacity e stay n size long long2 (book_fits b) (book_sound b) behind front rest
+    (λ k lo hi. zeros k (omega arith) (omega arith))
+    (λ k s. outside k (⊎_elim (λ (x : k < place stay). inl (omega arith)) (λ (x : place n ≤ k). inr (omega arith)) s))
+    shrunk kept bytes

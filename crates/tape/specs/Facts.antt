@@ -7,7 +7,8 @@ use Rattle.std.proofs.lemmas.List.FromFn.{length-map-range_with_len, get_or-map-
 use Rattle.std.proofs.ByRecursion.{All-from_get_or}
 use Rattle.std.proofs.lemmas.Nat.{le-div, div-add-mod'}
 use Rattle.book.specs.Meaning.{Shaped}
-use Rattle.tape.specs.Layout.{RoomIn, Fitting, word, place, pair_at, pairs_of}
+use Rattle.book.specs.Words.{word}
+use Rattle.tape.specs.Layout.{RoomIn, Fitting, place, pair_at, pairs_of}
 
 pub room_fits : (m : List ℕ) (cap : ℕ) → RoomIn (length m) cap → Fitting m cap
 room_fits m cap (whole, is) =

@@ -6,12 +6,6 @@ use Rattle.faults.specs.declared.WireFault.TheVariants.{WrongLength}
 use Rattle.book.specs.Meaning.{Pair, Shaped}
 use Rattle.tape.specs.Layout.{room_in, image, place, pairs_of, later, Sound}
 
--- The capacity is the largest number of whole records, up to 1,024, and memory is refused just where it
--- holds none.
-abbrev pub Most : ℕ → Result ℕ WireFault → Type 0
-Most len (Ok n) = (1 ≤ n) × (n ≤ 1024) × (place n ≤ len) × (n < 1024 → len < place (n + 1))
-Most len (Err f) = (len < place 1) × (f ≡ WrongLength)
-
 -- What an image holds is read back from it, pair by pair and in their order.
 abbrev pub ReadBack : Type 0
 ReadBack = (ps : List Pair) (cap : ℕ) (rest : List ℕ) → AllByRecursion Shaped ps → pairs_of (image ps cap rest) ≡ ps

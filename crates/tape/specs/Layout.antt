@@ -5,28 +5,21 @@ use Rattle.std.specs.List.{range_with_len, flat_map}
 use Rattle.faults.specs.declared.BookFault.{BookFault}
 use Rattle.faults.specs.declared.BookFault.TheVariants.{Spent, Full}
 use Rattle.faults.specs.declared.WireFault.{WireFault}
-use Rattle.faults.specs.declared.WireFault.TheVariants.{WrongLength}
 use Rattle.book.specs.Meaning.{Pair, Apart}
+use Rattle.book.specs.Rooms as rooms
+use Rattle.book.specs.Words.{two, word}
 
 -- ---- capacity
 
--- as many records as fit behind the size, at most 1,024
-abbrev pub room : ℕ → ℕ
-room len = min 1024 ((len - 2) / 34)
-
--- memory without a whole record is refused
+-- as many records as fit behind the size, at most 1,024; memory without a whole record is refused
 abbrev pub room_in : ℕ → Result ℕ WireFault
-room_in len = cond (nat_lt len 36) (Err WrongLength) (Ok (room len))
+room_in len = rooms.room_in 2 34 len
 
 -- memory of this length has a whole record, and this is its capacity
 abbrev pub RoomIn : ℕ → ℕ → Type 0
-RoomIn len cap = (36 ≤ len) × (cap ≡ room len)
+RoomIn len cap = rooms.RoomIn 2 34 len cap
 
 -- ---- writing
-
--- a number in two bytes, the higher first
-abbrev pub two : ℕ → List ℕ
-two n = n / 256 ∷ n % 256 ∷ []
 
 -- a record: the epoch, then the nonce
 abbrev pub record_of : Pair → List ℕ
@@ -37,10 +30,6 @@ unfoldable pub image : List Pair → ℕ → List ℕ → List ℕ
 image ps cap later = two (length ps) ++ (flat_map record_of ps ++ (replicate (34 * (cap - length ps)) 0 ++ later))
 
 -- ---- reading
-
--- two bytes as a number
-abbrev pub word : List ℕ → ℕ → ℕ
-word m at = slice_index m at * 256 + slice_index m (at + 1)
 
 -- where record i begins, counted from 0
 abbrev pub place : ℕ → ℕ
@@ -79,17 +68,7 @@ pub record Sound (m : List ℕ) (cap : ℕ) : Type 0 where
 
 -- ---- what the calls leave
 
--- mark refuses a pair that is in, then any where the size is the capacity
-abbrev pub Refuses : Result (Unit {0}) BookFault → Type 0 → ℕ → ℕ → Type 0
-Refuses (Ok _) In size cap = (In → ⊥) × (size < cap)
-Refuses (Err Spent) In size cap = In
-Refuses (Err Full) In size cap = (In → ⊥) × (size ≡ cap)
-
 -- mark writes the pair behind the others; a refused one writes nothing
-abbrev pub marked_pairs : Result (Unit {0}) BookFault → List Pair → Pair → List Pair
-marked_pairs (Ok _) ps p = ps ++ p ∷ []
-marked_pairs (Err _) ps p = ps
-
 abbrev pub marked_image : Result (Unit {0}) BookFault → List ℕ → ℕ → Pair → List ℕ
 marked_image (Ok _) m cap p = image (pairs_of m ++ p ∷ []) cap (later m cap)
 marked_image (Err _) m cap p = m

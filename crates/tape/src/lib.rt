@@ -9,9 +9,7 @@
 // fit, at most 1,024; the later bytes are never touched. A station is made over it as over any other book.
 #![tactic(auto)]
 
-mod bytes;
+mod records;
 mod tape_book;
 
-pub use tape_book::{
-    TapeBook, capacities_are_worked, capacity_in, image_tells_the_pairs, with_book,
-};
+pub use tape_book::{Tape, TapeBook, capacities_are_worked, image_tells_the_pairs};

@@ -1,7 +1,8 @@
 // A tape over lent memory, with what holds of it at all times.
 ghost use Rattle.std.specs.Prelude.{◌≤◌, length};
 ghost use Rattle.book.specs.Meaning.{Apart};
-ghost use Rattle.tape.specs.Layout.{RoomIn, word, pairs_of, Laid};
+ghost use Rattle.book.specs.Words.{word};
+ghost use Rattle.tape.specs.Layout.{RoomIn, pairs_of, Laid};
 
 #[derive(Drop)]
 pub struct TapeBook<'a> {
@@ -19,4 +20,4 @@ pub struct TapeBook<'a> {
 
 mod methods;
 
-pub use methods::{capacities_are_worked, capacity_in, image_tells_the_pairs, with_book};
+pub use methods::{Tape, capacities_are_worked, image_tells_the_pairs};

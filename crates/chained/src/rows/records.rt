@@ -1,11 +1,48 @@
-// The rows as the chains see them.
-ghost use Rattle.std.specs.Prelude.{◌≡◌};
-ghost use Rattle.chained.specs.Layout.{table_of, later};
+// The rows as the chains see them: each call reads or writes one part of the table.
+ghost use Rattle.std.specs.Prelude.{◌≡◌, ◌-◌, ◌≤◌, length, Decides};
+ghost use Rattle.chains.specs.Tables.{zeroed};
+ghost use Rattle.chained.specs.Layout.{place, table_of, later, Written};
 
 use super::Rows;
-use crate::bytes;
-use chains::{Records, RecordsMut};
-use std::mem;
+use crate::nonces::{nonce_at, put_nonce};
+use book::words::{put_word, word_at};
+use chains::{CHAINS, Records, RecordsMut};
+
+// Where the size stands, behind the heads.
+const SIZE: usize = 130;
+
+// Where the records begin.
+pub const HEAD: usize = 132;
+
+// How long a record is.
+pub const RECORD: usize = 36;
+
+// Where the record of a number begins.
+fn start(number: u16) -> usize
+    requires { 1 ≤ number }
+    ensures { result ≡ place (number - 1) }
+{
+    HEAD + RECORD * (number as usize - 1)
+}
+
+// Zeroes the heads, the size and every record.
+// Stays a function of the slice: rows are made only of bytes, and that lent memory is made of them is known
+// where a call ends that has the slice itself.
+pub fn wipe(m: &mut [u8], capacity: u16)
+    requires { place capacity ≤ length m.old }
+    ensures { Written capacity m.old m.new (zeroed (length (table_of capacity m.old).entries)) }
+{
+    m[0..HEAD + RECORD * capacity as usize].fill(0);
+}
+
+impl<'a> Rows<'a> {
+    // Whether there is a record of this number.
+    fn has(&self, number: u16) -> bool
+        ensures { Decides result ((1 ≤ number) × (number ≤ self.now.capacity)) }
+    {
+        1 <= number && number <= self.capacity
+    }
+}
 
 impl<'a> Records for Rows<'a> {
     ghost table = { λ r. table_of r.capacity r.memory.now };
@@ -15,23 +52,39 @@ impl<'a> Records for Rows<'a> {
     }
 
     fn head(&self, chain: u8) -> u16 {
-        bytes::head(self.memory, self.capacity, chain)
+        if chain > CHAINS {
+            return 0;
+        }
+        word_at(self.memory, 2 * chain as usize)
     }
 
     fn count(&self) -> u16 {
-        bytes::count(self.memory, self.capacity)
+        word_at(self.memory, SIZE)
     }
 
     fn next(&self, number: u16) -> u16 {
-        bytes::next(self.memory, self.capacity, number)
+        if !self.has(number) {
+            return 0;
+        }
+        word_at(self.memory, start(number))
     }
 
     fn epoch(&self, number: u16) -> u16 {
-        bytes::epoch(self.memory, self.capacity, number)
+        if !self.has(number) {
+            return 0;
+        }
+        word_at(self.memory, start(number) + 2)
     }
 
     fn holds(&self, number: u16, epoch: u16, nonce: &[u8; 32]) -> bool {
-        bytes::holds(self.memory, self.capacity, number, epoch, nonce)
+        if !self.has(number) {
+            return epoch == 0 && nonce == &[0; 32];
+        }
+        let at = start(number);
+        if word_at(self.memory, at + 2) != epoch {
+            return false;
+        }
+        nonce_at(self.memory, at + 4, nonce)
     }
 }
 
@@ -39,37 +92,31 @@ impl<'a> RecordsMut for Rows<'a> {
     ghost beside = { λ r. (r.memory.ghost_name, later r.memory.now r.capacity) };
 
     fn put_head(&mut self, chain: u8, number: u16) {
-        let capacity = self.capacity;
-        let memory = mem::replace(&mut self.memory, &mut []);
-        bytes::put_head(memory, capacity, chain, number);
-        self.memory = memory;
+        if chain <= CHAINS {
+            put_word(self.memory, 2 * chain as usize, number);
+        }
     }
 
     fn put_count(&mut self, count: u16) {
-        let capacity = self.capacity;
-        let memory = mem::replace(&mut self.memory, &mut []);
-        bytes::put_count(memory, capacity, count);
-        self.memory = memory;
+        put_word(self.memory, SIZE, count);
     }
 
     fn put_next(&mut self, number: u16, next: u16) {
-        let capacity = self.capacity;
-        let memory = mem::replace(&mut self.memory, &mut []);
-        bytes::put_next(memory, capacity, number, next);
-        self.memory = memory;
+        if self.has(number) {
+            put_word(self.memory, start(number), next);
+        }
     }
 
     fn put(&mut self, number: u16, next: u16, epoch: u16, nonce: &[u8; 32]) {
-        let capacity = self.capacity;
-        let memory = mem::replace(&mut self.memory, &mut []);
-        bytes::put(memory, capacity, number, next, epoch, nonce);
-        self.memory = memory;
+        if self.has(number) {
+            let at = start(number);
+            put_word(self.memory, at, next);
+            put_word(self.memory, at + 2, epoch);
+            put_nonce(self.memory, at + 4, nonce);
+        }
     }
 
     fn wipe(&mut self) {
-        let capacity = self.capacity;
-        let memory = mem::replace(&mut self.memory, &mut []);
-        bytes::wipe(memory, capacity);
-        self.memory = memory;
+        wipe(self.memory, self.capacity);
     }
 }

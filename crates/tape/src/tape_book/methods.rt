@@ -1,28 +1,39 @@
 // The calls of a tape.
-ghost use Rattle.std.specs.Prelude.{◌≡◌, ◌<◌, [], length, Ok};
+ghost use Rattle.std.specs.Prelude.{◌≡◌, ◌<◌, [], map, length, Ok};
 ghost use Rattle.book.specs.Meaning.{Cleared, Marked, Dropped, others};
 ghost use Rattle.book.specs.Making.{Worked};
-ghost use Rattle.tape.specs.Layout.{room_in, image, later, marked_image};
-ghost use Rattle.tape.specs.Laws.{Most, ReadBack, OneImage, Capacities};
+ghost use Rattle.book.specs.Rooms.{Most};
+ghost use Rattle.tape.specs.Layout.{room_in, pair_at, pairs_of, image, later, marked_image};
+ghost use Rattle.tape.specs.Laws.{ReadBack, OneImage, Capacities};
 ghost use Rattle.tape.specs.Books.{meaning_of};
 
 use super::TapeBook;
-use crate::bytes;
-use book::{Book, Work};
+use crate::records::{HEAD, RECORD, clear, is_pair, put_pair, start};
+use book::words::{put_word, word_at};
+use book::{Book, Layout, Work, records_in};
 use faults::{BookFault, WireFault};
-use std::mem;
 
-// How many pairs memory of this length takes: as many records as fit, at most 1,024. Memory without a whole
-// record is refused as a wrong length.
-pub fn capacity_in(len: usize) -> Result<u16, WireFault>
-    ensures answer { result ≡ room_in len }
-    ensures most { Most len result }
-{
-    if len < 36 {
-        return Err(WireFault::WrongLength);
+// How a tape lies in memory.
+pub struct Tape;
+
+impl Layout for Tape {
+    ghost room = { room_in };
+
+    // As many records as fit, at most 1,024. Memory without a whole record is refused as a wrong length.
+    fn capacity_in(len: usize) -> Result<u16, WireFault>
+        ensures answer { result ≡ room_in len }
+        ensures most { Most 2 34 len result }
+    {
+        records_in::<HEAD, RECORD>(len)
     }
-    let fit = (len - 2) / 34;
-    Ok(fit.min(1024) as u16)
+
+    fn with_book<W: Work + Drop>(memory: &mut [u8], work: W) -> Result<W::Answer, WireFault>
+        ensures answer { Worked (W.told work) (room_in (length memory.old)) result }
+        ensures stays { length memory.old < 36 → memory.new ≡ memory.old }
+    {
+        let capacity = Tape::capacity_in(memory.len())?;
+        Ok(work.on(TapeBook::over(memory, capacity)))
+    }
 }
 
 // The capacities at the edges: below one record, one, two, and the most.
@@ -45,7 +56,7 @@ impl<'a> TapeBook<'a> {
         ensures image { result.memory.now ≡ image [] capacity (later memory.old capacity) }
         ensures lender { result.memory.ghost_name ≡ memory.entry.ghost_name }
     {
-        bytes::clear(memory, capacity);
+        clear(memory, capacity);
         TapeBook { memory, capacity }
     }
 
@@ -56,16 +67,14 @@ impl<'a> TapeBook<'a> {
     {
         self.memory
     }
-}
 
-// Does a piece of work on a fresh book over the memory. Memory without a whole record is refused as a wrong
-// length, and is left as it is.
-pub fn with_book<W: Work + Drop>(memory: &mut [u8], work: W) -> Result<W::Answer, WireFault>
-    ensures answer { Worked (W.Work.told work) (room_in (length memory.old)) result }
-    ensures stays { length memory.old < 36 → memory.new ≡ memory.old }
-{
-    let capacity = capacity_in(memory.len())?;
-    Ok(work.on(TapeBook::over(memory, capacity)))
+    // The records, in the order of marking.
+    fn records(&self) -> &[[u8; RECORD]]
+        ensures { map (λ r. pair_at r 0) result.now ≡ pairs_of self.now.memory.now }
+    {
+        let (records, _) = self.memory[HEAD..start(self.size())].as_chunks::<RECORD>();
+        records
+    }
 }
 
 impl<'a> Book for TapeBook<'a> {
@@ -76,42 +85,59 @@ impl<'a> Book for TapeBook<'a> {
         ensures image { self.new.memory.now ≡ image [] self.old.capacity (later self.old.memory.now self.old.capacity) }
         ensures lender { self.new.memory.ghost_name ≡ self.old.memory.ghost_name }
     {
-        let capacity = self.capacity;
-        let memory = mem::replace(&mut self.memory, &mut []);
-        bytes::clear(memory, capacity);
-        self.memory = memory;
+        clear(self.memory, self.capacity);
     }
 
     fn has(&self, epoch: u16, nonce: &[u8; 32]) -> bool {
-        bytes::find(self.memory, bytes::word_at(self.memory, 0), epoch, nonce)
+        self.records()
+            .iter()
+            .any(|stored| is_pair(stored, epoch, nonce))
     }
 
+    // Writes a pair behind the others.
     fn mark(&mut self, epoch: u16, nonce: &[u8; 32]) -> Result<(), BookFault>
         ensures meaning { Marked (meaning_of self.old) (epoch, nonce.now) result (meaning_of self.new) }
         ensures image { self.new.memory.now ≡ marked_image result self.old.memory.now self.old.capacity (epoch, nonce.now) }
         ensures lender { self.new.memory.ghost_name ≡ self.old.memory.ghost_name }
     {
-        let capacity = self.capacity;
-        let memory = mem::replace(&mut self.memory, &mut []);
-        let marked = bytes::mark(memory, capacity, epoch, nonce);
-        self.memory = memory;
-        marked
+        if self.has(epoch, nonce) {
+            return Err(BookFault::Spent);
+        }
+        let size = self.size();
+        if size == self.capacity {
+            return Err(BookFault::Full);
+        }
+        let memory = &mut *self.memory;
+        put_pair(memory, start(size), epoch, nonce);
+        put_word(memory, 0, size + 1);
+        Ok(())
     }
 
+    // Closes the gaps that an epoch's records leave.
+    // Stays with two places counted by hand: a record moves within the slice that is gone along, which no
+    // iterator lends for reading and writing at once, and `retain` is a heap's `Vec`'s.
     fn drop_epoch(&mut self, epoch: u16) -> u16
         ensures meaning { Dropped (meaning_of self.old) epoch result (meaning_of self.new) }
         ensures image { self.new.memory.now ≡ image (others epoch (meaning_of self.old).pairs) self.old.capacity (later self.old.memory.now self.old.capacity) }
         ensures lender { self.new.memory.ghost_name ≡ self.old.memory.ghost_name }
     {
-        let capacity = self.capacity;
-        let memory = mem::replace(&mut self.memory, &mut []);
-        let dropped = bytes::drop_epoch(memory, capacity, epoch);
-        self.memory = memory;
-        dropped
+        let size = self.size();
+        let memory = &mut *self.memory;
+        let mut stay = 0;
+        for i in 0..size {
+            let from = start(i);
+            if word_at(memory, from) != epoch {
+                memory.copy_within(from..from + RECORD, start(stay));
+                stay += 1;
+            }
+        }
+        memory[start(stay)..start(size)].fill(0);
+        put_word(memory, 0, stay);
+        size - stay
     }
 
     fn size(&self) -> u16 {
-        bytes::word_at(self.memory, 0)
+        word_at(self.memory, 0)
     }
 
     fn capacity(&self) -> u16 {

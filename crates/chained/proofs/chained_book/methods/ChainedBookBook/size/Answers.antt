@@ -6,4 +6,4 @@ use Rattle.chained.proofs.chained_book.methods.ChainedBookBook.size.Goals as goa
 pub returns : goal.returns
 returns c =
     let b = c.args.self.now in
-    c.count.ensures ∙ b.counted.0 ∙ sym (length_pairs (table_of b.capacity b.memory.now))
+    c.count.ensures ∙ b.counted.0 ∙ sym (length_pairs (table_of b.rows.capacity b.rows.memory.now))

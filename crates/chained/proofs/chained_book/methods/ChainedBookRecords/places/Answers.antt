@@ -1,6 +1,0 @@
-use Rattle.std.proofs.Common.{sym}
-use Rattle.chained.specs.Facts.{places_is}
-use Rattle.chained.proofs.chained_book.methods.ChainedBookRecords.places.Goals as goal
-
-pub returns : goal.returns
-returns c = sym (places_is c.args.self.now.capacity c.args.self.now.memory.now)
