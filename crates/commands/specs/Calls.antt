@@ -1,5 +1,6 @@
 -- What the commands on groups and tokens answer.
-use Rattle.std.specs.Prelude.{ℕ, cond, not, List, [], ◌∷◌, length, Some, None, Ok, Err, Option, Result, ◌==◌}
+use Rattle.std.specs.Prelude.{ℕ, not, List, [], ◌∷◌, length, Ok, Err, Option, Result, ◌==◌}
+use Rattle.std.specs.List.{find}
 use Rattle.std.specs.Option.{ok_or}
 use Rattle.std.specs.Str.{bytes_eq}
 use Rattle.circ523.specs.Kind.{points}
@@ -40,9 +41,14 @@ abbrev pub coded : Result Code BatchFault → Result (List ℕ) BatchFault
 coded (Ok c) = Ok (code_bytes c)
 coded (Err f) = Err f
 
+-- the name of each kind's group
+abbrev pub kind_name : Kind → List ℕ
+kind_name Res2039 = residues.name
+kind_name Circ523 = points.name
+
 -- the kind of a name
-unfoldable pub kind_of : List ℕ → Option Kind
-kind_of w = cond (bytes_eq w residues.name) (Some Res2039) (cond (bytes_eq w points.name) (Some Circ523) None)
+abbrev pub kind_of : List ℕ → Option Kind
+kind_of w = find (λ k. bytes_eq w (kind_name k)) (Res2039 ∷ Circ523 ∷ [])
 
 -- the same calls, in the chosen group
 unfoldable pub decode_in : Kind → List ℕ → Result (Unit {0}) BatchFault

@@ -3,10 +3,10 @@
 //   script --Kind, bytes--> commands --G--> group, token
 //
 // Each call is written once for every kind of group; `Kind` is the choice that a line `group NAME` makes.
-#![tactic(auto)]
+#![tactic(auto, unfolding(crate::specs::Calls::decoded, crate::specs::Calls::mapped, crate::specs::Calls::based, crate::specs::Calls::decode_in, crate::specs::Calls::map_in, crate::specs::Calls::base_in, crate::specs::Calls::input_in, crate::specs::Calls::direct_in))]
 
 ghost use Rattle.std.specs.Prelude.{◌≡◌};
-ghost use Rattle.commands.specs.Calls.{decoded, mapped, based, coded, kind_of, decode_in, map_in, base_in, input_in, direct_in};
+ghost use Rattle.commands.specs.Calls.{decoded, mapped, based, coded, kind_name, kind_of, decode_in, map_in, base_in, input_in, direct_in};
 
 use circ523::Point;
 use faults::{BatchFault, GroupFault, WireFault};
@@ -54,20 +54,29 @@ pub enum Kind {
     Circ523,
 }
 
+// All the kinds.
+const KINDS: [Kind; 2] = [Kind::Res2039, Kind::Circ523];
+
 impl Kind {
     // The kind of this name.
     pub fn of(word: &[u8]) -> Option<Kind>
         ensures { result ≡ kind_of word.now }
     {
-        if word == Residue::name() {
-            return Some(Kind::Res2039);
-        }
-        if word == Point::name() {
-            return Some(Kind::Circ523);
-        }
-        None
+        KINDS.iter().copied().find(|kind| word == kind.name())
     }
 
+    // The name of the group.
+    fn name(self) -> &'static [u8]
+        ensures { result.now ≡ kind_name self }
+    {
+        match self {
+            Kind::Res2039 => Residue::name(),
+            Kind::Circ523 => Point::name(),
+        }
+    }
+
+    // Stays a match of two arms in each call: a trait with a method that is generic over the group would need a
+    // struct with fields and an impl for every call.
     pub fn decode(self, code: &[u8]) -> Result<(), BatchFault>
         ensures { result ≡ decode_in self code.now }
     {
