@@ -1,3 +1,4 @@
 pub mod Arguing
+pub mod Numbers
 pub mod Printing
 pub mod Table

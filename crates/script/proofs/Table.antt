@@ -1,9 +1,14 @@
--- The first entry with a name, and what a table holds after a change. Assumes nothing.
-use Rattle.std.proofs.Common.{◌≡◌, ℕ, zero, suc, Bool, true, false, cond, List, [], ◌∷◌, ◌++◌, get_or, set, Some, None, vec_items, Option, sym, refl, ap, ◌∙◌, arith}
+-- What a table holds after a name has new bytes. Assumes nothing.
+use Rattle.std.proofs.Common.{◌≡◌, ℕ, Bool, true, false, cond, List, Some, None, vec_items, Option, Vec, sym, refl, ap, ◌∙◌, subst}
+use Rattle.std.proofs.lemmas.Bool.{cases_Bool, cond-true, cond-false}
 use Rattle.std.proofs.lemmas.Slice.Eq.{bytes_eq-Decides}
+use Rattle.std.specs.Cmp.Lexicographic.{bytes_decides, nat_list_eq_equiv}
+use Rattle.std.specs.HashMap.{HashMap, UpdatesBy, get_by}
+use Rattle.std.specs.Map.{lookup, IsKeyTest, AreApart, KeepsOthers}
+use Rattle.std.specs.Option.{option_map}
 use Rattle.std.specs.Str.{bytes_eq}
-use Rattle.script.specs.Kept.{found, Located}
-use Rattle.script.specs.declared.names.Entry.{Entry}
+use Rattle.std.specs.declared.alloc.Global.{Global}
+use mathlib.Core.Logic.{⊎_elim}
 
 pub same : (xs ys : List ℕ) → xs ≡ ys → bytes_eq xs ys ≡ true
 same xs ys e = (bytes_eq-Decides xs ys).1 e
@@ -15,55 +20,25 @@ not_same xs ys false e h = e
 pub differ : (xs ys : List ℕ) → (xs ≡ ys → ⊥) → bytes_eq xs ys ≡ false
 differ xs ys h = not_same xs ys (bytes_eq xs ys) refl h
 
-module _ (name : List ℕ) where
-  -- past the first entry
-  past_some : (x : Entry) (es : List Entry) (i : ℕ) → Located (x ∷ es) name (Some (suc i)) → Located es name (Some i)
-  past_some x es i l = (omega (arith, l.0), l.1, λ k h n. l.2 (suc k) (omega arith) n)
+-- a key is found by its bytes
+abbrev pub bytes_at : {S : Type 0} → HashMap (Vec ℕ Global) (Vec ℕ Global) S → List ℕ → Option (List ℕ)
+bytes_at m name = option_map (λ v. vec_items v) (get_by (λ k. bytes_eq name (vec_items k)) m)
 
-  past_none : (x : Entry) (es : List Entry) → Located (x ∷ es) name None → Located es name None
-  past_none x es l = λ k h n. l (suc k) (omega arith) n
+-- a key with one name has no other
+apart : (name other key : List ℕ) → bytes_eq name other ≡ false → bytes_eq name key ≡ true → bytes_eq other key ≡ false
+apart name other key n y = nat_list_eq_equiv.symm other key ∙ sym (nat_list_eq_equiv.congr name key other y) ∙ n
 
-  pub found_at : (es : List Entry) (i : ℕ) (e : Entry) → Located es name (Some i) → e ≡ get_or es i e → found es name ≡ Some (vec_items e.bytes)
-  found_at [] i e l is = absurd (omega (arith, l.0))
-  found_at (x ∷ es) zero e l is =
-      ap (λ b. cond b (Some (vec_items x.bytes)) (found es name)) (same _ _ (l.1 e)) ∙ ap (λ y. Some (vec_items y.bytes)) (sym is)
-  found_at (x ∷ es) (suc i) e l is =
-      ap (λ b. cond b (Some (vec_items x.bytes)) (found es name)) (differ _ _ (λ h. l.2 0 (omega arith) (λ d. h))) ∙ found_at es i e (past_some x es i l) is
+module _ {S : Type 0} (name : List ℕ) (m n : HashMap (Vec ℕ Global) (Vec ℕ Global) S) (v : Vec ℕ Global)
+    (put : UpdatesBy (λ x y. bytes_eq (vec_items x) (vec_items y)) (λ k. bytes_eq name (vec_items k)) m n (Some v)) where
+  others : (other : List ℕ) → bytes_eq name other ≡ false → bytes_at n other ≡ bytes_at m other
+  unfolding KeepsOthers
+  others other e =
+      ap (option_map (λ v. vec_items v)) (put.3 (λ k. bytes_eq other (vec_items k)) (λ x y. nat_list_eq_equiv.congr other (vec_items x) (vec_items y)) (λ k. apart name other (vec_items k) e))
 
-  pub found_none : (es : List Entry) → Located es name None → found es name ≡ None
-  found_none [] l = refl
-  found_none (x ∷ es) l =
-      ap (λ b. cond b (Some (vec_items x.bytes)) (found es name)) (differ _ _ (λ h. l 0 (omega arith) (λ d. h))) ∙ found_none es (past_none x es l)
-
-  module _ (bytes other : List ℕ) where
-    -- what the name has from now on, and every other name as before
-    abbrev pub now_holds : Option (List ℕ) → Option (List ℕ)
-    now_holds before = cond (bytes_eq name other) (Some bytes) before
-
-    -- an entry of another name in front
-    in_front : (x : Entry) (r before : Option (List ℕ)) → (vec_items x.name ≡ name → ⊥) → r ≡ now_holds before →
-        cond (bytes_eq (vec_items x.name) other) (Some (vec_items x.bytes)) r ≡ now_holds (cond (bytes_eq (vec_items x.name) other) (Some (vec_items x.bytes)) before)
-    in_front x r before apart e =
-        let go : (b : Bool) → bytes_eq (vec_items x.name) other ≡ b → cond b (Some (vec_items x.bytes)) r ≡ now_holds (cond b (Some (vec_items x.bytes)) before) =
-        λ b. elim b as (λ v. bytes_eq (vec_items x.name) other ≡ v → cond v (Some (vec_items x.bytes)) r ≡ now_holds (cond v (Some (vec_items x.bytes)) before)) [
-          | true ↦ λ is. ap (λ v. cond v (Some bytes) (Some (vec_items x.bytes))) (sym (differ name other (λ h. apart ((bytes_eq-Decides _ _).0 is ∙ sym h))))
-          | false ↦ λ is. e
-        ] in
-        go (bytes_eq (vec_items x.name) other) refl
-
-    pub found_set : (es : List Entry) (i : ℕ) (e : Entry) → Located es name (Some i) → vec_items e.name ≡ name → vec_items e.bytes ≡ bytes → found (set es i e) other ≡ now_holds (found es other)
-    found_set [] i e l n b = absurd (omega (arith, l.0))
-    found_set (x ∷ es) zero e l n b =
-        let go : (v : Bool) → bytes_eq name other ≡ v → cond v (Some bytes) (found es other) ≡ cond v (Some bytes) (found (x ∷ es) other) =
-        λ v. elim v as (λ v. bytes_eq name other ≡ v → cond v (Some bytes) (found es other) ≡ cond v (Some bytes) (found (x ∷ es) other)) [
-          | true ↦ λ is. refl
-          | false ↦ λ is. ap (λ v. cond v (Some (vec_items x.bytes)) (found es other)) (sym (ap (λ m. bytes_eq m other) (l.1 x) ∙ is))
-        ] in
-        (λ j. cond (bytes_eq (n j) other) (Some (b j)) (found es other)) ∙ go (bytes_eq name other) refl
-    found_set (x ∷ es) (suc i) e l n b =
-        in_front x (found (set es i e) other) (found es other) (λ h. l.2 0 (omega arith) (λ d. h)) (found_set es i e (past_some x es i l) n b)
-
-    pub found_push : (es : List Entry) (e : Entry) → Located es name None → vec_items e.name ≡ name → vec_items e.bytes ≡ bytes → found (es ++ e ∷ []) other ≡ now_holds (found es other)
-    found_push [] e l n b = λ j. cond (bytes_eq (n j) other) (Some (b j)) None
-    found_push (x ∷ es) e l n b =
-        in_front x (found (es ++ e ∷ []) other) (found es other) (λ h. l 0 (omega arith) (λ d. h)) (found_push es e (past_none x es l) n b)
+  -- the name has the new bytes, and every other what it had
+  pub bytes_at_put : (other : List ℕ) → bytes_at n other ≡ cond (bytes_eq name other) (Some (vec_items v)) (bytes_at m other)
+  bytes_at_put other =
+      ⊎_elim
+      (λ y. subst (λ l. bytes_at n l ≡ Some (vec_items v)) ((bytes_decides name other).0 y) (ap (option_map (λ v. vec_items v)) put.1) ∙ sym (cond-true (bytes_eq name other) (Some (vec_items v)) (bytes_at m other) y))
+      (λ e. others other e ∙ sym (cond-false (bytes_eq name other) (Some (vec_items v)) (bytes_at m other) e))
+      (cases_Bool (bytes_eq name other))

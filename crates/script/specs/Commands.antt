@@ -1,5 +1,6 @@
 -- The words that call commands.
-use Rattle.std.specs.Prelude.{ℕ, cond, List, [], ◌∷◌, Some, None, codes, Option}
+use Rattle.std.specs.Prelude.{ℕ, List, [], ◌∷◌, codes, Option}
+use Rattle.std.specs.List.{find}
 use Rattle.std.specs.Str.{bytes_eq}
 use Rattle.script.specs.declared.command.Command.{Command}
 use Rattle.script.specs.declared.command.Command.TheVariants.{Digest, Group, Decode, Map, Base, Input, Direct, Book, Mark, Has, Drop, Size, Clear, Image, Protocol}
@@ -29,11 +30,6 @@ word_of Clear = codes "clear"
 word_of Image = codes "image"
 word_of (Protocol w) = protocol_word w
 
--- the first of some commands that a word calls
-unfoldable pub called : List Command → List ℕ → Option Command
-called [] w = None
-called (c ∷ cs) w = cond (bytes_eq (word_of c) w) (Some c) (called cs w)
-
 -- the command that a word calls
-abbrev pub command_of : List ℕ → Option Command
-command_of w = called commands w
+unfoldable pub command_of : List ℕ → Option Command
+command_of w = find (λ c. bytes_eq w (word_of c)) commands

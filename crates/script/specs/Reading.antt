@@ -1,14 +1,20 @@
 -- The words after a command: what the first of them stands for, and the words after it.
 use Rattle.std.specs.Prelude.{◌≡◌, ℕ, ◌+◌, cond, ◌⊎◌, List, [], ◌∷◌, Some, None, Ok, Err, vec_items, codes, Option, Result, Vec}
 use Rattle.std.specs.declared.alloc.Global.{Global}
+use Rattle.std.specs.Borrow.{Bor}
+use Rattle.std.specs.List.{find}
+use Rattle.std.specs.Option.{ok_or}
 use Rattle.std.specs.Str.{bytes_eq}
 use Rattle.commands.specs.Calls.{kind_of}
 use Rattle.commands.specs.declared.Kind.{Kind}
 use Rattle.text.specs.Decimals.{numeral}
+use Rattle.text.specs.Lines.{left}
 use Rattle.text.specs.declared.decimal.NumberFault.{NumberFault}
 use Rattle.script.specs.Arguments.{Table, argument}
 use Rattle.script.specs.declared.errors.LineFault.{LineFault}
 use Rattle.script.specs.declared.errors.LineFault.TheVariants.{MissingWord, ExtraWord, NoNumber, UnknownGroup, UnknownBook, Memory}
+use Rattle.script.specs.Kept.{holds}
+use Rattle.script.specs.declared.reading.Arguments.{Arguments}
 use Rattle.script.specs.declared.reading.Shelf.{Shelf}
 use Rattle.script.specs.declared.reading.Shelf.TheVariants.{Chained, Tape}
 
@@ -51,18 +57,19 @@ abbrev pub first_room : ℕ → List (List ℕ) → Result ℕ LineFault
 first_room at [] = Err (MissingWord at)
 first_room at (w ∷ ws) = room_of at w
 
--- the kind of book of a name
-unfoldable pub shelf_of : List ℕ → Option Shelf
-shelf_of w = cond (bytes_eq w (codes "chained")) (Some Chained) (cond (bytes_eq w (codes "tape")) (Some Tape) None)
+-- the name of each kind of book
+abbrev pub shelf_name : Shelf → List ℕ
+shelf_name Chained = codes "chained"
+shelf_name Tape = codes "tape"
 
-abbrev pub as_shelf : ℕ → Option Shelf → Result Shelf LineFault
-as_shelf at None = Err (UnknownBook at)
-as_shelf at (Some s) = Ok s
+-- the kind of book of a name
+abbrev pub shelf_of : List ℕ → Option Shelf
+shelf_of w = find (λ s. bytes_eq w (shelf_name s)) (Chained ∷ Tape ∷ [])
 
 -- the kind of book that the first word names
 abbrev pub first_shelf : ℕ → List (List ℕ) → Result Shelf LineFault
 first_shelf at [] = Err (MissingWord at)
-first_shelf at (w ∷ ws) = as_shelf at (shelf_of w)
+first_shelf at (w ∷ ws) = ok_or (shelf_of w) (UnknownBook at)
 
 -- a kind of book and its length, and no more
 abbrev pub shelf_and_length : ℕ → List (List ℕ) → Result (Shelf × ℕ) LineFault
@@ -70,14 +77,14 @@ shelf_and_length at ws =
     then (first_shelf at ws) (λ s. then (first_number 65536 (at + 1) (rest_of ws)) (λ n.
     then (at_end (at + 2) (rest_of (rest_of ws))) (λ _. Ok (s, n))))
 
--- the group that the only word names
-abbrev pub as_kind : ℕ → List (List ℕ) → Option Kind → Result Kind LineFault
-as_kind at ws None = Err (UnknownGroup at)
-as_kind at ws (Some k) = then (at_end (at + 1) ws) (λ _. Ok k)
+-- the group that the first word names
+abbrev pub first_kind : ℕ → List (List ℕ) → Result Kind LineFault
+first_kind at [] = Err (MissingWord at)
+first_kind at (w ∷ ws) = ok_or (kind_of w) (UnknownGroup at)
 
+-- the group that the only word names
 abbrev pub kind_at : ℕ → List (List ℕ) → Result Kind LineFault
-kind_at at [] = Err (MissingWord at)
-kind_at at (w ∷ ws) = as_kind at ws (kind_of w)
+kind_at at ws = then (first_kind at ws) (λ k. then (at_end (at + 1) (rest_of ws)) (λ _. Ok k))
 
 -- one, two, three and four words of bytes, and no more
 abbrev pub one_of : Table → ℕ → List (List ℕ) → Result (List ℕ) LineFault
@@ -92,39 +99,23 @@ three_of table at ws = then (first_bytes table at ws) (λ a. then (two_of table 
 abbrev pub four_of : Table → ℕ → List (List ℕ) → Result (List ℕ × List ℕ × List ℕ × List ℕ) LineFault
 four_of table at ws = then (first_bytes table at ws) (λ a. then (three_of table (at + 1) (rest_of ws)) (λ b. Ok (a, b.0, b.1, b.2)))
 
--- the bytes of the first word are had and the word is taken, or memory is wanting
-abbrev pub Brings : Table → ℕ → List (List ℕ) → List (List ℕ) → Result (Vec ℕ Global) LineFault → Type 0
-Brings table at before after (Ok bs) = (first_bytes table at before ≡ Ok (vec_items bs)) × (after ≡ rest_of before)
-Brings table at before after (Err f) = (f ≡ Memory) ⊎ (first_bytes table at before ≡ Err f)
+-- the next word is read: the words after it are left, and it is counted
+abbrev pub Onward : Arguments → Arguments → Type 0
+Onward before after = (after.names ≡ before.names) × (left after.words ≡ rest_of (left before.words)) × (after.next ≡ before.next + 1)
 
--- the same of a number, which needs no memory
-abbrev pub Numbers : ℕ → ℕ → List (List ℕ) → List (List ℕ) → Result ℕ LineFault → Type 0
-Numbers most at before after (Ok n) = (first_number most at before ≡ Ok n) × (after ≡ rest_of before)
-Numbers most at before after (Err f) = first_number most at before ≡ Err f
+-- the next word is taken, if there is one
+abbrev pub Takes : Arguments → Arguments → Result (ℕ × Bor (List ℕ)) LineFault → Type 0
+Takes before after (Ok p) =
+    (p.0 ≡ before.next) × (left before.words ≡ p.1.now ∷ left after.words) × (after.names ≡ before.names) × (after.next ≡ before.next + 1)
+Takes before after (Err f) = (left before.words ≡ []) × (f ≡ MissingWord before.next)
 
--- the same of the length of an outlet
-abbrev pub Rooms : ℕ → List (List ℕ) → List (List ℕ) → Result ℕ LineFault → Type 0
-Rooms at before after (Ok n) = (first_room at before ≡ Ok n) × (after ≡ rest_of before)
-Rooms at before after (Err f) = first_room at before ≡ Err f
+-- the next word is read as what the first of the words stands for
+abbrev pub Reads : {T : Type 0} → (ℕ → List (List ℕ) → Result T LineFault) → Arguments → Arguments → Result T LineFault → Type 0
+Reads first before after (Ok x) = (first before.next (left before.words) ≡ Ok x) × Onward before after
+Reads first before after (Err f) = first before.next (left before.words) ≡ Err f
 
--- the same of a kind of book
-abbrev pub Shelves : ℕ → List (List ℕ) → List (List ℕ) → Result Shelf LineFault → Type 0
-Shelves at before after (Ok s) = (first_shelf at before ≡ Ok s) × (after ≡ rest_of before)
-Shelves at before after (Err f) = first_shelf at before ≡ Err f
-
--- all the words are had, or memory is wanting
-abbrev pub One : Table → ℕ → List (List ℕ) → Result (Vec ℕ Global) LineFault → Type 0
-One table at ws (Ok a) = one_of table at ws ≡ Ok (vec_items a)
-One table at ws (Err f) = (f ≡ Memory) ⊎ (one_of table at ws ≡ Err f)
-
-abbrev pub Two : Table → ℕ → List (List ℕ) → Result (Vec ℕ Global × Vec ℕ Global) LineFault → Type 0
-Two table at ws (Ok p) = two_of table at ws ≡ Ok (vec_items p.0, vec_items p.1)
-Two table at ws (Err f) = (f ≡ Memory) ⊎ (two_of table at ws ≡ Err f)
-
-abbrev pub Three : Table → ℕ → List (List ℕ) → Result (Vec ℕ Global × Vec ℕ Global × Vec ℕ Global) LineFault → Type 0
-Three table at ws (Ok p) = three_of table at ws ≡ Ok (vec_items p.0, vec_items p.1, vec_items p.2)
-Three table at ws (Err f) = (f ≡ Memory) ⊎ (three_of table at ws ≡ Err f)
-
-abbrev pub Four : Table → ℕ → List (List ℕ) → Result (Vec ℕ Global × Vec ℕ Global × Vec ℕ Global × Vec ℕ Global) LineFault → Type 0
-Four table at ws (Ok p) = four_of table at ws ≡ Ok (vec_items p.0, vec_items p.1, vec_items p.2, vec_items p.3)
-Four table at ws (Err f) = (f ≡ Memory) ⊎ (four_of table at ws ≡ Err f)
+-- the same of bytes, or memory is wanting
+abbrev pub Brings : Arguments → Arguments → Result (Vec ℕ Global) LineFault → Type 0
+Brings before after (Ok bs) =
+    (first_bytes (holds before.names.now) before.next (left before.words) ≡ Ok (vec_items bs)) × Onward before after
+Brings before after (Err f) = (f ≡ Memory) ⊎ (first_bytes (holds before.names.now) before.next (left before.words) ≡ Err f)

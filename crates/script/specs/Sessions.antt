@@ -4,9 +4,7 @@ use Rattle.commands.specs.Calls.{decode_in, map_in, base_in, input_in, direct_in
 use Rattle.commands.specs.declared.Kind.{Kind}
 use Rattle.digest.specs.Sha256.{digested}
 use Rattle.faults.specs.Numbers.{wire_tells, batch_tells}
-use Rattle.faults.specs.declared.BatchFault.{BatchFault}
 use Rattle.faults.specs.declared.Refusal.{Refusal}
-use Rattle.faults.specs.declared.WireFault.{WireFault}
 use Rattle.std.specs.Str.{bytes_eq}
 use Rattle.script.specs.Arguments.{Table}
 use Rattle.script.specs.Reading.{then}
@@ -24,30 +22,20 @@ use Rattle.script.specs.declared.errors.LineFault.TheVariants.{NoBook, NoStation
 abbrev pub Outcome : Type 0
 Outcome = Result (Result Said Refusal) LineFault
 
--- bytes, or the refusal of a wire fault
-abbrev pub wired : Result (List ℕ) WireFault → Result Said Refusal
-wired (Ok bs) = Ok (bytes bs)
-wired (Err f) = Err (wire_tells f)
-
--- the same of a fault of a batch
-abbrev pub batched : Result (List ℕ) BatchFault → Result Said Refusal
-batched (Ok bs) = Ok (bytes bs)
-batched (Err f) = Err (batch_tells f)
-
--- nothing, or the refusal
-abbrev pub silent : Result (Unit {0}) BatchFault → Result Said Refusal
-silent (Ok u) = Ok done
-silent (Err f) = Err (batch_tells f)
+-- what a call's answer says, or the refusal of its fault
+abbrev pub answered : {T F : Type 0} → (T → Said) → (F → Refusal) → Result T F → Result Said Refusal
+answered says tells (Ok x) = Ok (says x)
+answered says tells (Err f) = Err (tells f)
 
 -- what each task says, in the group that is chosen; what is asked of a book or of a station, a session has none to ask
 abbrev pub performed : Kind → Asked → Outcome
-performed k (digest bs) = Ok (wired (digested bs))
+performed k (digest bs) = Ok (answered bytes wire_tells (digested bs))
 performed k (group g) = Ok (Ok (chose g))
-performed k (decode code) = Ok (silent (decode_in k code))
-performed k (map bs) = Ok (batched (map_in k bs))
-performed k (base code) = Ok (batched (base_in k code))
-performed k (input e nonce context pk) = Ok (batched (input_in k e nonce context pk))
-performed k (direct key i) = Ok (batched (direct_in k key i))
+performed k (decode code) = Ok (answered (λ _. done) batch_tells (decode_in k code))
+performed k (map bs) = Ok (answered bytes batch_tells (map_in k bs))
+performed k (base code) = Ok (answered bytes batch_tells (base_in k code))
+performed k (input e nonce context pk) = Ok (answered bytes batch_tells (input_in k e nonce context pk))
+performed k (direct key i) = Ok (answered bytes batch_tells (direct_in k key i))
 performed k (book s n) = Err NoBook
 performed k (call c) = Err NoBook
 performed k (protocol a) = Err NoStation

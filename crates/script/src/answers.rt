@@ -24,11 +24,14 @@ pub enum Answer {
     Chose(Kind),
 }
 
-// A command that was carried out: what it answered, or how it was refused.
+// What a command answered, or how it was refused.
+pub type Outcome = Result<Answer, Refusal>;
+
+// A command that was carried out, with its outcome.
 #[derive(Drop)]
 pub struct Report {
     pub command: Command,
-    pub outcome: Result<Answer, Refusal>,
+    pub outcome: Outcome,
 }
 
 impl Report {
@@ -36,10 +39,13 @@ impl Report {
     pub fn write(&self, line: &mut Vec<u8>) -> Result<(), AllocError>
         ensures { Appends (printed self.now) line.old line.new result }
     {
+        // Stays a list of pieces: `write!` of a `Display` into a `Vec<u8>` answers an `io::Error`, which does not say
+        // that memory was wanting.
         let word = Piece::Text(self.command.word());
         match &self.outcome {
-            Ok(Answer::Done) => pieces::write(&[word, Piece::Text(": ok")], line),
-            Ok(Answer::Chose(_)) => pieces::write(&[word, Piece::Text(": ok")], line),
+            Ok(Answer::Done | Answer::Chose(_)) => {
+                pieces::write(&[word, Piece::Text(": ok")], line)
+            }
             Ok(Answer::Number(number)) => {
                 pieces::write(&[word, Piece::Text(": ok "), Piece::Number(*number)], line)
             }

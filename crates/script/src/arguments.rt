@@ -1,6 +1,6 @@
 // The words after a command, as what they stand for.
-ghost use Rattle.std.specs.Prelude.{◌≡◌, ◌/◌, ◌<◌, ◌≤◌, length};
-ghost use Rattle.script.specs.Arguments.{token_at, misreading, argument, recalled, picked, Adds, Picks};
+ghost use Rattle.std.specs.Prelude.{◌≡◌};
+ghost use Rattle.script.specs.Arguments.{misreading, argument, recalled, picked, Adds, Picks};
 ghost use Rattle.script.specs.Kept.{holds};
 
 use crate::errors::LineFault;
@@ -27,6 +27,8 @@ pub fn read(word: &[u8], at: usize, names: &Names, bytes: &mut Vec<u8>) -> Resul
     if let [b'$', text @ ..] = word {
         return recall(text, at, names, bytes);
     }
+    // Stays a match: after `map_err(|fault| misread(fault, at))` the goal `returns` was left open, that the two
+    // answers of `hex::read` are those of `argument`.
     match hex::read(word, bytes) {
         Ok(()) => Ok(()),
         Err(fault) => Err(misread(fault, at)),
@@ -48,14 +50,10 @@ fn recall(text: &[u8], at: usize, names: &Names, bytes: &mut Vec<u8>) -> Result<
     ensures { Adds (recalled (holds names.now) at text.now) bytes.old bytes.new result }
 {
     let (name, rest) = text.split_at(Class::Name.run(text));
-    match names.find(name) {
-        Some(kept) => {
-            let part = pick(kept, rest, at)?;
-            bytes.extend_from_slice(part)?;
-            Ok(())
-        }
-        None => Err(LineFault::UnknownName { word: at }),
-    }
+    let kept = names.find(name).ok_or(LineFault::UnknownName { word: at })?;
+    let part = pick(kept, rest, at)?;
+    bytes.extend_from_slice(part)?;
+    Ok(())
 }
 
 // All of what is kept, or, after a dot, the token of that number.
@@ -68,24 +66,11 @@ fn pick<'a>(kept: &'a [u8], rest: &[u8], at: usize) -> Result<&'a [u8], LineFaul
     let [b'.', number @ ..] = rest else {
         return Err(LineFault::UnknownName { word: at });
     };
-    match decimal::read(number, (kept.len() / TOKEN) as u64) {
-        Ok(number) => {
-            if number == 0 {
-                return Err(LineFault::NoToken { word: at });
-            }
-            Ok(token(kept, number as usize))
-        }
-        Err(_) => Err(LineFault::NoToken { word: at }),
-    }
-}
-
-// The token of that number.
-fn token(tokens: &[u8], number: usize) -> &[u8]
-    requires { (0 < number) × (number ≤ length tokens.now / 132) }
-    ensures { result.now ≡ token_at number tokens.now }
-{
-    let start = (number - 1) * TOKEN;
-    let (_before, rest) = tokens.split_at(start);
-    let (token, _after) = rest.split_at(TOKEN);
-    token
+    let tokens = (kept.len() / TOKEN) as u64;
+    let number = decimal::read(number, tokens).map_err(|_| LineFault::NoToken { word: at })?;
+    let before = number
+        .checked_sub(1)
+        .ok_or(LineFault::NoToken { word: at })?;
+    let start = before as usize * TOKEN;
+    Ok(&kept[start..start + TOKEN])
 }

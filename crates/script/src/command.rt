@@ -69,15 +69,14 @@ const COMMANDS: [Command; 25] = [
 
 impl Command {
     // The command that a word calls.
+    #[tactic(auto, unfolding(crate::specs::Commands::command_of))]
     pub fn of(word: &[u8]) -> Option<Command>
         ensures { result ≡ command_of word.now }
     {
-        for command in &COMMANDS {
-            if command.word().as_bytes() == word {
-                return Some(*command);
-            }
-        }
-        None
+        COMMANDS
+            .iter()
+            .copied()
+            .find(|command| word == command.word().as_bytes())
     }
 
     // The word that calls the command.

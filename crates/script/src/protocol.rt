@@ -5,12 +5,7 @@ ghost use Rattle.script.specs.Kept.{holds};
 ghost use Rattle.script.specs.Protocol.{protocol_word, acted, Acts};
 
 use crate::errors::LineFault;
-use crate::names::Names;
-use crate::reading::{
-    LONGEST, Shelf, end, epoch, four, number, one, room, shelf_and_length, three, two,
-};
-use std::alloc::Global;
-use text::words::Words;
+use crate::reading::{Arguments, LONGEST, Shelf};
 
 #[derive(Clone, Copy, PartialEq, Eq, Debug)]
 pub enum Word {
@@ -103,30 +98,27 @@ pub enum Action {
 }
 
 // Reads the words after a word of the protocol: as many as it needs, and no more.
-pub fn read(
-    word: Word,
-    mut words: Words<'_>,
-    at: usize,
-    names: &Names,
-    heap: Global,
-) -> Result<Action, LineFault>
-    requires { at < 5 }
-    ensures { Acts (acted (holds names.now) word at (left words.entry)) result }
+pub fn read(word: Word, mut arguments: Arguments<'_>) -> Result<Action, LineFault>
+    requires { arguments.next < 5 }
+    ensures { Acts (acted (holds arguments.entry.names.now) word arguments.entry.next (left arguments.entry.words)) result }
 {
     match word {
         Word::Scratch => {
-            let length = number(&mut words, at, LONGEST)?;
-            end(words, at + 1)?;
+            let length = arguments.number(LONGEST)?;
+            arguments.end()?;
             Ok(Action::Scratch { length })
         }
         Word::Outlet => {
-            let length = room(&mut words, at)?;
-            end(words, at + 1)?;
+            let length = arguments.room()?;
+            arguments.end()?;
             Ok(Action::Outlet { length })
         }
         Word::Blind => {
-            let epoch = epoch(&mut words, at)?;
-            let (pk, seeds, blinds) = three(words, at + 1, names, heap)?;
+            let epoch = arguments.epoch()?;
+            let pk = arguments.bytes()?;
+            let seeds = arguments.bytes()?;
+            let blinds = arguments.bytes()?;
+            arguments.end()?;
             Ok(Action::Blind {
                 epoch,
                 pk,
@@ -135,7 +127,11 @@ pub fn read(
             })
         }
         Word::Finish => {
-            let (pk, seeds, blinds, reply) = four(words, at, names, heap)?;
+            let pk = arguments.bytes()?;
+            let seeds = arguments.bytes()?;
+            let blinds = arguments.bytes()?;
+            let reply = arguments.bytes()?;
+            arguments.end()?;
             Ok(Action::Finish {
                 pk,
                 seeds,
@@ -144,41 +140,47 @@ pub fn read(
             })
         }
         Word::Abandon => {
-            end(words, at)?;
+            arguments.end()?;
             Ok(Action::Abandon)
         }
         Word::Station => {
-            let (shelf, length) = shelf_and_length(words, at)?;
+            let shelf = arguments.shelf()?;
+            let length = arguments.number(LONGEST)?;
+            arguments.end()?;
             Ok(Action::Station { shelf, length })
         }
         Word::Open => {
-            let epoch = epoch(&mut words, at)?;
-            let key = one(words, at + 1, names, heap)?;
+            let epoch = arguments.epoch()?;
+            let key = arguments.bytes()?;
+            arguments.end()?;
             Ok(Action::Serve {
                 service: Service::Open { epoch, key },
             })
         }
         Word::Close => {
-            let epoch = epoch(&mut words, at)?;
-            end(words, at + 1)?;
+            let epoch = arguments.epoch()?;
+            arguments.end()?;
             Ok(Action::Serve {
                 service: Service::Close { epoch },
             })
         }
         Word::Issue => {
-            let (request, nonce) = two(words, at, names, heap)?;
+            let request = arguments.bytes()?;
+            let nonce = arguments.bytes()?;
+            arguments.end()?;
             Ok(Action::Serve {
                 service: Service::Issue { request, nonce },
             })
         }
         Word::Redeem => {
-            let token = one(words, at, names, heap)?;
+            let token = arguments.bytes()?;
+            arguments.end()?;
             Ok(Action::Serve {
                 service: Service::Redeem { token },
             })
         }
         Word::Count => {
-            end(words, at)?;
+            arguments.end()?;
             Ok(Action::Serve {
                 service: Service::Count,
             })

@@ -1,8 +1,8 @@
 // The words after a command, read one after another: bytes, numbers and names.
-ghost use Rattle.std.specs.Prelude.{◌≡◌, ◌+◌, ◌<◌};
+ghost use Rattle.std.specs.Prelude.{◌≡◌, ◌<◌};
+ghost use Rattle.text.specs.Decimals.{numeral};
 ghost use Rattle.text.specs.Lines.{left};
-ghost use Rattle.script.specs.Kept.{holds};
-ghost use Rattle.script.specs.Reading.{at_end, kind_at, room_of, shelf_of, shelf_and_length, Brings, Numbers, Rooms, Shelves, One, Two, Three, Four};
+ghost use Rattle.script.specs.Reading.{at_end, as_number, first_number, first_room, first_shelf, first_kind, room_of, shelf_name, shelf_of, Brings, Reads, Takes};
 
 use crate::arguments;
 use crate::errors::LineFault;
@@ -19,6 +19,31 @@ pub enum Shelf {
     Tape,
 }
 
+// All the kinds.
+const SHELVES: [Shelf; 2] = [Shelf::Chained, Shelf::Tape];
+
+impl Shelf {
+    // The kind of this name.
+    pub fn of(word: &[u8]) -> Option<Shelf>
+        ensures { result ≡ shelf_of word.now }
+    {
+        SHELVES
+            .iter()
+            .copied()
+            .find(|shelf| word == shelf.name().as_bytes())
+    }
+
+    // The name of the kind.
+    fn name(self) -> &'static str
+        ensures { result.now ≡ shelf_name self }
+    {
+        match self {
+            Shelf::Chained => "chained",
+            Shelf::Tape => "tape",
+        }
+    }
+}
+
 // The most bytes that a book, a scratch or an outlet has in a script.
 pub const LONGEST: u64 = 65536;
 
@@ -27,198 +52,111 @@ pub const ROOM: u64 = 2112;
 
 const FULL: &[u8] = b"full";
 
-// The bytes that the next word stands for.
-fn argument(
-    words: &mut Words<'_>,
-    at: usize,
-    names: &Names,
-    heap: Global,
-) -> Result<Vec<u8>, LineFault>
-    ensures { Brings (holds names.now) at (left words.old) (left words.new) result }
-{
-    let Some(word) = words.take() else {
-        return Err(LineFault::MissingWord { word: at });
-    };
-    let mut bytes = Vec::new(heap);
-    arguments::read(word, at, names, &mut bytes)?;
-    Ok(bytes)
+// The words after a command that are still to be read, and what they may name.
+#[derive(Drop)]
+pub struct Arguments<'a> {
+    pub words: Words<'a>,
+    // the number that the next word has in its line
+    pub next: usize,
+    pub names: &'a Names,
+    pub heap: Global,
 }
 
-// The number that the next word writes, where it is not above `most`.
-pub fn number(words: &mut Words<'_>, at: usize, most: u64) -> Result<u64, LineFault>
-    ensures { Numbers most at (left words.old) (left words.new) result }
-{
-    let Some(word) = words.take() else {
-        return Err(LineFault::MissingWord { word: at });
-    };
-    match decimal::read(word, most) {
-        Ok(number) => Ok(number),
-        Err(_) => Err(LineFault::NoNumber { word: at }),
+impl<'a> Arguments<'a> {
+    // The next word, with its number.
+    fn word(&mut self) -> Result<(usize, &'a [u8]), LineFault>
+        requires { self.old.next < 16 }
+        ensures { Takes self.old self.new result }
+    {
+        let number = self.next;
+        let word = self
+            .words
+            .take()
+            .ok_or(LineFault::MissingWord { word: number })?;
+        self.next += 1;
+        Ok((number, word))
+    }
+
+    // The bytes that the next word stands for.
+    pub fn bytes(&mut self) -> Result<Vec<u8>, LineFault>
+        requires { self.old.next < 16 }
+        ensures { Brings self.old self.new result }
+    {
+        let (at, word) = self.word()?;
+        let mut bytes = Vec::new(self.heap);
+        arguments::read(word, at, self.names, &mut bytes)?;
+        Ok(bytes)
+    }
+
+    // The number that the next word writes, where it is not above `most`.
+    pub fn number(&mut self, most: u64) -> Result<u64, LineFault>
+        requires { self.old.next < 16 }
+        ensures { Reads (first_number most) self.old self.new result }
+    {
+        let (at, word) = self.word()?;
+        number(word, at, most)
+    }
+
+    // The epoch that the next word writes.
+    pub fn epoch(&mut self) -> Result<u16, LineFault>
+        requires { self.old.next < 16 }
+        ensures { Reads (first_number 65535) self.old self.new result }
+    {
+        let epoch = self.number(65535)?;
+        Ok(epoch as u16)
+    }
+
+    // The length of an outlet that the next word writes: `full` is one that every answer fits.
+    pub fn room(&mut self) -> Result<u64, LineFault>
+        requires { self.old.next < 16 }
+        ensures { Reads first_room self.old self.new result }
+    {
+        let (at, word) = self.word()?;
+        room(word, at)
+    }
+
+    // The kind of book that the next word names.
+    pub fn shelf(&mut self) -> Result<Shelf, LineFault>
+        requires { self.old.next < 16 }
+        ensures { Reads first_shelf self.old self.new result }
+    {
+        let (at, word) = self.word()?;
+        Shelf::of(word).ok_or(LineFault::UnknownBook { word: at })
+    }
+
+    // The group that the next word names.
+    pub fn kind(&mut self) -> Result<Kind, LineFault>
+        requires { self.old.next < 16 }
+        ensures { Reads first_kind self.old self.new result }
+    {
+        let (at, word) = self.word()?;
+        Kind::of(word).ok_or(LineFault::UnknownGroup { word: at })
+    }
+
+    // The command has all its words.
+    pub fn end(mut self) -> Result<(), LineFault>
+        ensures { result ≡ at_end self.entry.next (left self.entry.words) }
+    {
+        match self.words.take() {
+            Some(_) => Err(LineFault::ExtraWord { word: self.next }),
+            None => Ok(()),
+        }
     }
 }
 
-// The length of an outlet that the next word writes: `full` is one that every answer fits.
-pub fn room(words: &mut Words<'_>, at: usize) -> Result<u64, LineFault>
-    ensures { Rooms at (left words.old) (left words.new) result }
+// The number that word number `at` writes, where it is not above `most`.
+fn number(word: &[u8], at: usize, most: u64) -> Result<u64, LineFault>
+    ensures { result ≡ as_number at (numeral most word.now) }
 {
-    let Some(word) = words.take() else {
-        return Err(LineFault::MissingWord { word: at });
-    };
-    let length = room_of(word, at)?;
-    Ok(length)
+    decimal::read(word, most).map_err(|_| LineFault::NoNumber { word: at })
 }
 
-fn room_of(word: &[u8], at: usize) -> Result<u64, LineFault>
+// The length of an outlet that word number `at` writes.
+fn room(word: &[u8], at: usize) -> Result<u64, LineFault>
     ensures { result ≡ room_of at word.now }
 {
     if word == FULL {
         return Ok(ROOM);
     }
-    match decimal::read(word, LONGEST) {
-        Ok(number) => Ok(number),
-        Err(_) => Err(LineFault::NoNumber { word: at }),
-    }
-}
-
-// The kind of book that the next word names, and how many bytes it lies in, which end the line.
-pub fn shelf_and_length(mut words: Words<'_>, at: usize) -> Result<(Shelf, u64), LineFault>
-    requires { at < 8 }
-    ensures { result ≡ shelf_and_length at (left words.entry) }
-{
-    let shelf = shelf_named(&mut words, at)?;
-    let length = number(&mut words, at + 1, LONGEST)?;
-    end(words, at + 2)?;
-    Ok((shelf, length))
-}
-
-// The epoch that the next word writes.
-pub fn epoch(words: &mut Words<'_>, at: usize) -> Result<u16, LineFault>
-    ensures { Numbers 65535 at (left words.old) (left words.new) result }
-{
-    let Some(word) = words.take() else {
-        return Err(LineFault::MissingWord { word: at });
-    };
-    match decimal::read(word, 65535) {
-        Ok(number) => Ok(number as u16),
-        Err(_) => Err(LineFault::NoNumber { word: at }),
-    }
-}
-
-// The kind of book that the next word names.
-fn shelf_named(words: &mut Words<'_>, at: usize) -> Result<Shelf, LineFault>
-    ensures { Shelves at (left words.old) (left words.new) result }
-{
-    let Some(word) = words.take() else {
-        return Err(LineFault::MissingWord { word: at });
-    };
-    match Shelf::of(word) {
-        Some(shelf) => Ok(shelf),
-        None => Err(LineFault::UnknownBook { word: at }),
-    }
-}
-
-impl Shelf {
-    // The kind of this name.
-    pub fn of(word: &[u8]) -> Option<Shelf>
-        ensures { result ≡ shelf_of word.now }
-    {
-        if word == CHAINED {
-            return Some(Shelf::Chained);
-        }
-        if word == TAPE {
-            return Some(Shelf::Tape);
-        }
-        None
-    }
-}
-
-const CHAINED: &[u8] = b"chained";
-
-const TAPE: &[u8] = b"tape";
-
-// The group that the only word names.
-pub fn kind(mut words: Words<'_>, at: usize) -> Result<Kind, LineFault>
-    requires { at < 8 }
-    ensures { result ≡ kind_at at (left words.entry) }
-{
-    let Some(word) = words.take() else {
-        return Err(LineFault::MissingWord { word: at });
-    };
-    match Kind::of(word) {
-        Some(kind) => {
-            end(words, at + 1)?;
-            Ok(kind)
-        }
-        None => Err(LineFault::UnknownGroup { word: at }),
-    }
-}
-
-// The bytes of the only word that is left.
-pub fn one(
-    mut words: Words<'_>,
-    at: usize,
-    names: &Names,
-    heap: Global,
-) -> Result<Vec<u8>, LineFault>
-    requires { at < 8 }
-    ensures { One (holds names.now) at (left words.entry) result }
-{
-    let first = argument(&mut words, at, names, heap)?;
-    end(words, at + 1)?;
-    Ok(first)
-}
-
-// The bytes of the two words that are left.
-pub fn two(
-    mut words: Words<'_>,
-    at: usize,
-    names: &Names,
-    heap: Global,
-) -> Result<(Vec<u8>, Vec<u8>), LineFault>
-    requires { at < 7 }
-    ensures { Two (holds names.now) at (left words.entry) result }
-{
-    let first = argument(&mut words, at, names, heap)?;
-    let second = one(words, at + 1, names, heap)?;
-    Ok((first, second))
-}
-
-// The bytes of the three words that are left.
-pub fn three(
-    mut words: Words<'_>,
-    at: usize,
-    names: &Names,
-    heap: Global,
-) -> Result<(Vec<u8>, Vec<u8>, Vec<u8>), LineFault>
-    requires { at < 6 }
-    ensures { Three (holds names.now) at (left words.entry) result }
-{
-    let first = argument(&mut words, at, names, heap)?;
-    let (second, third) = two(words, at + 1, names, heap)?;
-    Ok((first, second, third))
-}
-
-// The bytes of the four words that are left.
-pub fn four(
-    mut words: Words<'_>,
-    at: usize,
-    names: &Names,
-    heap: Global,
-) -> Result<(Vec<u8>, Vec<u8>, Vec<u8>, Vec<u8>), LineFault>
-    requires { at < 5 }
-    ensures { Four (holds names.now) at (left words.entry) result }
-{
-    let first = argument(&mut words, at, names, heap)?;
-    let (second, third, fourth) = three(words, at + 1, names, heap)?;
-    Ok((first, second, third, fourth))
-}
-
-// The command has all its words.
-pub fn end(mut words: Words<'_>, at: usize) -> Result<(), LineFault>
-    ensures { result ≡ at_end at (left words.entry) }
-{
-    match words.take() {
-        Some(_) => Err(LineFault::ExtraWord { word: at }),
-        None => Ok(()),
-    }
+    number(word, at, LONGEST)
 }

@@ -2,21 +2,22 @@
 ghost use Rattle.std.specs.Prelude.{◌≡◌, ℕ, List, Some, None, Ok};
 ghost use Rattle.commands.specs.Calls.{coded};
 ghost use Rattle.commands.specs.declared.Kind.TheVariants.{Res2039};
+ghost use Rattle.faults.specs.Numbers.{batch_tells};
 ghost use Rattle.text.specs.Lines.{line_words};
 ghost use Rattle.script.specs.Kept.{holds};
 ghost use Rattle.script.specs.Reports.{outcome_of, bytes};
-ghost use Rattle.script.specs.Sessions.{performed, batched, chosen, Answers, Stores, Settled, Carries, Orders};
+ghost use Rattle.script.specs.Sessions.{performed, answered, chosen, Answers, Stores, Settled, Carries, Orders};
 ghost use Rattle.script.specs.Statements.{statement};
 ghost use Rattle.script.specs.Tasks.{asked_of};
 
-use crate::answers::{Answer, Report};
+use crate::answers::{Answer, Outcome, Report};
 use crate::command::Command;
 use crate::errors::LineFault;
 use crate::names::Names;
 use crate::tasks::Task;
 use crate::{statements, tasks};
 use commands::Kind;
-use faults::{BatchFault, Fault, Refusal};
+use faults::{BatchFault, Fault};
 use numbers::Code;
 use std::alloc::Global;
 
@@ -89,11 +90,7 @@ impl Session {
     }
 
     // Keeps what a book, the client or a station answered to a line, where the line has a name for it.
-    pub fn settle(
-        &mut self,
-        line: &[u8],
-        outcome: &Result<Answer, Refusal>,
-    ) -> Result<(), LineFault>
+    pub fn settle(&mut self, line: &[u8], outcome: &Outcome) -> Result<(), LineFault>
         ensures group { self.new.kind ≡ self.old.kind }
         ensures names { Settled (statement (line_words line.now)) (outcome_of outcome.now) (holds self.old.names) (holds self.new.names) result }
     {
@@ -107,20 +104,21 @@ impl Session {
     }
 
     // What a task answers, or how it is refused.
-    fn perform(&self, task: Task) -> Result<Result<Answer, Refusal>, LineFault>
+    fn perform(&self, task: Task) -> Result<Outcome, LineFault>
         ensures { Answers (performed self.now.kind (asked_of task)) result }
     {
         let kind = self.kind;
         match task {
-            Task::Digest { input } => match digest::digest(input.as_slice()) {
-                Ok(bytes) => self.bytes(&bytes),
-                Err(fault) => Ok(Err(fault.refusal())),
-            },
+            Task::Digest { input } => self.bytes(digest::digest(input.as_slice())),
             Task::Group { kind } => Ok(Ok(Answer::Chose(kind))),
-            Task::Decode { code } => match kind.decode(code.as_slice()) {
-                Ok(()) => Ok(Ok(Answer::Done)),
-                Err(fault) => Ok(Err(fault.refusal())),
-            },
+            Task::Decode { code } => {
+                let decoded = kind.decode(code.as_slice());
+                Ok(
+                    decoded
+                        .map(|()| Answer::Done)
+                        .map_err(|fault| fault.refusal()),
+                )
+            }
             Task::Map { bytes } => self.code(kind.map(bytes.as_slice())),
             Task::Base { scalar } => self.code(kind.base(scalar.as_slice())),
             Task::Input {
@@ -128,39 +126,47 @@ impl Session {
                 nonce,
                 context,
                 pk,
-            } => match kind.input(epoch, nonce.as_slice(), context.as_slice(), pk.as_slice()) {
-                Ok(bytes) => self.bytes(&bytes),
-                Err(fault) => Ok(Err(fault.refusal())),
-            },
-            Task::Direct { key, input } => match kind.direct(key.as_slice(), input.as_slice()) {
-                Ok(bytes) => self.bytes(&bytes),
-                Err(fault) => Ok(Err(fault.refusal())),
-            },
-            Task::Book { .. } => Err(LineFault::NoBook),
-            Task::Call { .. } => Err(LineFault::NoBook),
+            } => self.bytes(kind.input(epoch, nonce.as_slice(), context.as_slice(), pk.as_slice())),
+            Task::Direct { key, input } => {
+                self.bytes(kind.direct(key.as_slice(), input.as_slice()))
+            }
+            Task::Book { .. } | Task::Call { .. } => Err(LineFault::NoBook),
             Task::Protocol { .. } => Err(LineFault::NoStation),
         }
     }
 
-    // An answer of bytes.
-    fn bytes(&self, answer: &[u8]) -> Result<Result<Answer, Refusal>, LineFault>
+    // An answer of bytes, or the refusal of a fault.
+    fn bytes<const N: usize, F: Fault>(
+        &self,
+        answer: Result<[u8; N], F>,
+    ) -> Result<Outcome, LineFault>
+        ensures { Answers (Ok (answered bytes F.tells answer)) result }
+    {
+        match answer {
+            Ok(bytes) => self.copied(&bytes),
+            Err(fault) => Ok(Err(fault.refusal())),
+        }
+    }
+
+    // The same of a code.
+    fn code(&self, answer: Result<Code, BatchFault>) -> Result<Outcome, LineFault>
+        ensures { Answers (Ok (answered bytes batch_tells (coded answer))) result }
+    {
+        match answer {
+            Ok(code) => self.copied(code.as_slice()),
+            Err(fault) => Ok(Err(fault.refusal())),
+        }
+    }
+
+    // An answer of bytes, which are copied.
+    fn copied(&self, answer: &[u8]) -> Result<Outcome, LineFault>
         ensures { Answers (Ok (Ok (bytes answer.now))) result }
     {
         Ok(Ok(Answer::Bytes(Vec::from_slice(self.heap, answer)?)))
     }
 
-    // An answer of a code, or the refusal of a fault.
-    fn code(&self, answer: Result<Code, BatchFault>) -> Result<Result<Answer, Refusal>, LineFault>
-        ensures { Answers (Ok (batched (coded answer))) result }
-    {
-        match answer {
-            Ok(code) => self.bytes(code.as_slice()),
-            Err(fault) => Ok(Err(fault.refusal())),
-        }
-    }
-
     // Keeps bytes that were answered under the name.
-    fn keep(&mut self, name: &[u8], outcome: &Result<Answer, Refusal>) -> Result<(), LineFault>
+    fn keep(&mut self, name: &[u8], outcome: &Outcome) -> Result<(), LineFault>
         ensures group { self.new.kind ≡ self.old.kind }
         ensures names { Stores (Some name.now) (outcome_of outcome.now) (holds self.old.names) (holds self.new.names) result }
     {
@@ -174,16 +180,11 @@ impl Session {
 }
 
 // The group for the lines below: the one that was chosen, or that of before.
-fn next_kind(kind: Kind, outcome: &Result<Answer, Refusal>) -> Kind
+fn next_kind(kind: Kind, outcome: &Outcome) -> Kind
     ensures { result ≡ chosen (outcome_of outcome.now) kind }
 {
     match outcome {
         Ok(Answer::Chose(kind)) => *kind,
-        Ok(Answer::Done) => kind,
-        Ok(Answer::Number(_)) => kind,
-        Ok(Answer::Pair(_, _)) => kind,
-        Ok(Answer::Flag(_)) => kind,
-        Ok(Answer::Bytes(_)) => kind,
-        Err(_) => kind,
+        _ => kind,
     }
 }

@@ -55,10 +55,8 @@ fn named<'a>(name: &'a [u8], mut words: Words<'a>) -> Result<Option<Statement<'a
     if Class::Name.run(name) < name.len() {
         return Err(LineFault::BadName { word: 1 });
     }
-    match words.take() {
-        Some(word) => call(Some(name), word, words),
-        None => Err(LineFault::MissingWord { word: 3 }),
-    }
+    let word = words.take().ok_or(LineFault::MissingWord { word: 3 })?;
+    call(Some(name), word, words)
 }
 
 // The command that a word calls, with the words after it.
@@ -69,14 +67,12 @@ fn call<'a>(
 ) -> Result<Option<Statement<'a>>, LineFault>
     ensures { parsed result ≡ calling (option_map (λ x. x.now) name.entry) word.now (left arguments.entry) }
 {
-    match Command::of(word) {
-        Some(command) => Ok(Some(Statement {
-            name,
-            command,
-            arguments,
-        })),
-        None => Err(LineFault::UnknownCommand {
-            word: command_at(name),
-        }),
-    }
+    let command = Command::of(word).ok_or(LineFault::UnknownCommand {
+        word: command_at(name),
+    })?;
+    Ok(Some(Statement {
+        name,
+        command,
+        arguments,
+    }))
 }

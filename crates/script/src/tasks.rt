@@ -10,7 +10,7 @@ use crate::command::Command;
 use crate::errors::LineFault;
 use crate::names::Names;
 use crate::protocol::Action;
-use crate::reading::{Shelf, end, epoch, kind, one, shelf_and_length, three, two};
+use crate::reading::{Arguments, LONGEST, Shelf};
 use crate::statements::Statement;
 use crate::{protocol, statements};
 use commands::Kind;
@@ -73,32 +73,44 @@ pub enum Call {
 pub fn read(statement: Statement<'_>, names: &Names, heap: Global) -> Result<Task, LineFault>
     ensures { Asks (asked (holds names.now) statement.entry.command (command_at (option_map (λ x. x.now) statement.entry.name) + 1) (left statement.entry.arguments)) result }
 {
-    let at = statements::command_at(statement.name) + 1;
-    let mut words = statement.arguments;
+    let mut arguments = Arguments {
+        words: statement.arguments,
+        next: statements::command_at(statement.name) + 1,
+        names,
+        heap,
+    };
     match statement.command {
         Command::Digest => {
-            let input = one(words, at, names, heap)?;
+            let input = arguments.bytes()?;
+            arguments.end()?;
             Ok(Task::Digest { input })
         }
         Command::Group => {
-            let kind = kind(words, at)?;
+            let kind = arguments.kind()?;
+            arguments.end()?;
             Ok(Task::Group { kind })
         }
         Command::Decode => {
-            let code = one(words, at, names, heap)?;
+            let code = arguments.bytes()?;
+            arguments.end()?;
             Ok(Task::Decode { code })
         }
         Command::Map => {
-            let bytes = one(words, at, names, heap)?;
+            let bytes = arguments.bytes()?;
+            arguments.end()?;
             Ok(Task::Map { bytes })
         }
         Command::Base => {
-            let scalar = one(words, at, names, heap)?;
+            let scalar = arguments.bytes()?;
+            arguments.end()?;
             Ok(Task::Base { scalar })
         }
         Command::Input => {
-            let epoch = epoch(&mut words, at)?;
-            let (nonce, context, pk) = three(words, at + 1, names, heap)?;
+            let epoch = arguments.epoch()?;
+            let nonce = arguments.bytes()?;
+            let context = arguments.bytes()?;
+            let pk = arguments.bytes()?;
+            arguments.end()?;
             Ok(Task::Input {
                 epoch,
                 nonce,
@@ -107,48 +119,54 @@ pub fn read(statement: Statement<'_>, names: &Names, heap: Global) -> Result<Tas
             })
         }
         Command::Direct => {
-            let (key, input) = two(words, at, names, heap)?;
+            let key = arguments.bytes()?;
+            let input = arguments.bytes()?;
+            arguments.end()?;
             Ok(Task::Direct { key, input })
         }
         Command::Book => {
-            let (shelf, length) = shelf_and_length(words, at)?;
+            let shelf = arguments.shelf()?;
+            let length = arguments.number(LONGEST)?;
+            arguments.end()?;
             Ok(Task::Book { shelf, length })
         }
         Command::Mark => {
-            let epoch = epoch(&mut words, at)?;
-            let nonce = one(words, at + 1, names, heap)?;
+            let epoch = arguments.epoch()?;
+            let nonce = arguments.bytes()?;
+            arguments.end()?;
             Ok(Task::Call {
                 call: Call::Mark { epoch, nonce },
             })
         }
         Command::Has => {
-            let epoch = epoch(&mut words, at)?;
-            let nonce = one(words, at + 1, names, heap)?;
+            let epoch = arguments.epoch()?;
+            let nonce = arguments.bytes()?;
+            arguments.end()?;
             Ok(Task::Call {
                 call: Call::Has { epoch, nonce },
             })
         }
         Command::Drop => {
-            let epoch = epoch(&mut words, at)?;
-            end(words, at + 1)?;
+            let epoch = arguments.epoch()?;
+            arguments.end()?;
             Ok(Task::Call {
                 call: Call::Drop { epoch },
             })
         }
         Command::Size => {
-            end(words, at)?;
+            arguments.end()?;
             Ok(Task::Call { call: Call::Size })
         }
         Command::Clear => {
-            end(words, at)?;
+            arguments.end()?;
             Ok(Task::Call { call: Call::Clear })
         }
         Command::Image => {
-            end(words, at)?;
+            arguments.end()?;
             Ok(Task::Call { call: Call::Image })
         }
         Command::Protocol(word) => {
-            let action = protocol::read(word, words, at, names, heap)?;
+            let action = protocol::read(word, arguments)?;
             Ok(Task::Protocol { action })
         }
     }

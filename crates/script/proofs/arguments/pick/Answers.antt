@@ -1,38 +1,24 @@
-use Rattle.std.proofs.Common.{◌≡◌, cond, length, Ok, Err, sym, refl, ap, ◌∙◌, subst, arith}
-use Rattle.std.proofs.lemmas.List.{take_rest}
-use Rattle.std.proofs.lemmas.Bool.{eqb-false, eq-eqb, ne_eqb}
-use Rattle.text.specs.Decimals.{numeral}
-use Rattle.script.specs.Arguments.{Picks, token_at, picked, numbered}
-use Rattle.script.specs.declared.errors.LineFault.TheVariants.{NoToken}
+use Rattle.std.proofs.Common.{◌≡◌, ◌+◌, ◌/◌, ◌≤◌, length, sym, ap, ◌∙◌, arith}
+use Rattle.std.specs.Result.{result_ok}
 use Rattle.text.proofs.Numerals.{numerals_are_decimals}
-use Rattle.script.proofs.Arguing.{after_dot}
+use Rattle.script.proofs.Numbers.{read_ok, one_less}
 use Rattle.script.proofs.arguments.pick.Goals as goal
-use Rattle.script.proofs.arguments.pick.Goals.{Else-is_empty, In-Ok}
+use Rattle.script.proofs.arguments.pick.Goals.{In_ok-before}
 
-some : (c : Else-is_empty) → length c.args.rest.now ≡ 0 → ⊥
-some c = eqb-false _ 0 (sym c.if-is_empty.ensures)
+-- the token is there
+there : (c : In_ok-before) → c.in_ok-before.before + 1 ≤ length c.args.kept.now / 132
+there c =
+    let read = sym c.read.ensures ∙ read_ok c.read.result c.map_err.result c.in_ok-number.number _ c.map_err.ensures.cases c.map_err.ensures.variant c.in_ok-number.was in
+    let least : c.in_ok-number.number ≤ length c.args.kept.now / 132 = (numerals_are_decimals.only _ c.in_ok-number.number _ (omega arith) read).0 in
+    let before : c.in_ok-before.before + 1 ≡ c.in_ok-number.number =
+    one_less c.in_ok-number.number c.in_ok-before.before c.checked_sub.result c.checked_sub.ensures (c.ok_or.ensures.ok_part ∙ ap result_ok c.in_ok-before.was) in
+    omega (arith, least, before)
 
--- what is kept, with a dot and a number after its name
-told : (c : In-Ok) → picked c.args.at c.args.kept.now c.args.rest.now ≡ numbered c.args.at c.args.kept.now (Ok c.in-Ok.number)
-told c =
-    let read_as = ap (numeral _) (sym (take_rest c.args.rest.now 1)) ∙ sym c.in-Ok.ensures in
-    after_dot c.args.at c.args.kept.now c.args.rest.now (eqb-false _ 0 (sym c.if-is_empty.ensures)) _ (omega arith) read_as
+pub overflow_mul-start : goal.overflow_mul-start
+overflow_mul-start c = omega (arith, there c)
 
-pub token-requires : goal.token-requires
-token-requires c = (omega arith, (numerals_are_decimals.only _ c.in-Ok.number _ (omega arith) (sym c.in-Ok.ensures)).0)
+pub overflow_add-result : goal.overflow_add-result
+overflow_add-result c = omega (arith, there c)
 
-pub returns-then-number-eq0 : goal.returns-then-number-eq0
-returns-then-number-eq0 c =
-    let none = ap (λ v. cond v (Err (NoToken c.args.at)) (Ok (token_at c.in-Ok.number c.args.kept.now))) (eq-eqb c.in-Ok.number 0 (omega arith)) in
-    subst (λ p. Picks p (Err (NoToken c.args.at))) (sym (told (goal.at.returns-then-number-eq0 c).In-Ok ∙ none)) refl
-
-pub returns-else-number-eq0 : goal.returns-else-number-eq0
-returns-else-number-eq0 c =
-    let there = ap (λ v. cond v (Err (NoToken c.args.at)) (Ok (token_at c.in-Ok.number c.args.kept.now))) (ne_eqb c.in-Ok.number 0 (λ e. omega arith)) in
-    subst (λ p. Picks p (Ok c.token.result)) (sym (told (goal.at.returns-else-number-eq0 c).In-Ok ∙ there)) c.token.ensures
-
-pub returns-in-Err : goal.returns-in-Err
-returns-in-Err c =
-    let read_as = ap (numeral _) (sym (take_rest c.args.rest.now 1)) ∙ sym c.read.ensures ∙ c.in-Err.is in
-    let is = after_dot c.args.at c.args.kept.now c.args.rest.now (some (goal.at.returns-in-Err c).Else-is_empty) _ (omega arith) read_as in
-    subst (λ p. Picks p (Err (NoToken c.args.at))) (sym is) refl
+pub slice_bounds-result-end : goal.slice_bounds-result-end
+slice_bounds-result-end c = omega (arith, there c)

@@ -1,28 +1,27 @@
-use Rattle.std.proofs.Common.{Some, None, vec_items, refl, ap, ◌∙◌, subst}
+use Rattle.std.proofs.Common.{◌≡◌, ℕ, zero, suc, ◌<◌, vec_items, false, true, refl, ap, arith}
+use Rattle.std.proofs.lemmas.Bool.{both_ways}
 use Rattle.std.proofs.lemmas.Result.{err_from_is_err_and}
-use Rattle.script.specs.Kept.{holds, found, Located}
-use Rattle.script.proofs.Table.{found_set, found_push, found_none}
+use Rattle.std.specs.Map.{lookup}
+use Rattle.std.specs.Option.{option_map}
+use Rattle.std.specs.Str.{bytes_eq}
+use Rattle.script.specs.Kept.{holds}
+use Rattle.script.proofs.Table.{bytes_at_put}
 use Rattle.script.proofs.names.Names.keep.Goals as goal
 
-pub returns-in-Some : goal.returns-in-Some
-unfolding holds
-returns-in-Some c = λ other.
-    let at = subst (λ n. Located (vec_items c.args.self.now.entries) n (Some c.in-Some.i)) c.as_slice.ensures.value c.in-Some.ensures in
-    found_set (vec_items c.args.name) (vec_items c.args.bytes) other (vec_items c.args.self.now.entries) c.in-Some.i (record { name = c.args.name; bytes = c.args.bytes }) at refl refl
+none_left : (n : ℕ) → (0 < n → false ≡ true) → n ≡ 0
+none_left zero h = refl
+none_left (suc n) h = absurd (both_ways false refl (h (omega arith)))
 
-pub returns-in_err-push : goal.returns-in_err-push
+pub returns-in_err-insert : goal.returns-in_err-insert
 unfolding holds
-returns-in_err-push c =
+returns-in_err-insert c =
     let p = err_from_is_err_and c.from_residual.result c.from_residual.ensures.1 in
-    let new = subst (λ n. Located (vec_items c.args.self.now.entries) n None) c.as_slice.ensures.value c.in_default.ensures in
     rw p.1 (
-      (λ other. ap (λ es. found es other) c.in_err-push.ensures.items),
-      found_none _ _ new,
-      c.in_err-push.ensures.full,
+      (λ other. ap (λ es. option_map (λ v. vec_items v) (lookup (λ k. bytes_eq other (vec_items k)) es)) c.in_err-insert.ensures.err),
+      ap (option_map (λ v. vec_items v)) c.in_err-insert.ensures.absent,
+      none_left _ c.in_err-insert.ensures.succeeds,
     )
 
 pub returns : goal.returns
 unfolding holds
-returns c = λ other.
-    let new = subst (λ n. Located (vec_items c.args.self.now.entries) n None) c.as_slice.ensures.value c.in_default.ensures in
-    ap (λ es. found es other) c.in_ok-push.ensures.items ∙ found_push (vec_items c.args.name) (vec_items c.args.bytes) other (vec_items c.args.self.now.entries) (record { name = c.args.name; bytes = c.args.bytes }) new refl refl
+returns c = bytes_at_put (vec_items c.args.name) c.args.self.now.kept c.insert.new.self c.args.bytes c.in_ok-insert.ensures.updates
