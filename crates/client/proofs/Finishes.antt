@@ -1,11 +1,12 @@
 -- What `finish` answers, from what its steps answered.
-use Rattle.std.proofs.Common.{◌≡◌, ℕ, ◌≤◌, List, [], ◌++◌, length, take, drop, Ok, Err, Result, sym, ap, ◌∙◌}
+use Rattle.std.proofs.Common.{◌≡◌, ℕ, ◌≤◌, List, [], ◌++◌, length, drop, Ok, Err, Result, sym, refl, ap, ◌∙◌, ◌<◌}
 use Rattle.std.specs.Option.{ok_or}
-use Rattle.std.proofs.lemmas.List.{length-take-le, take-append-drop}
+use Rattle.std.proofs.lemmas.Bool.{lt-ltb, le-ltb}
+use Rattle.faults.specs.declared.WireFault.TheVariants.{ShortScratch}
 use Rattle.faults.specs.declared.GroupFault.{GroupFault}
 use Rattle.faults.specs.declared.GroupFault.TheVariants.{NoScalar}
 use Rattle.faults.specs.declared.BatchFault.{BatchFault}
-use Rattle.faults.specs.declared.BatchFault.TheVariants.{Group}
+use Rattle.faults.specs.declared.BatchFault.TheVariants.{Wire, Group}
 use Rattle.scalar.specs.Scalars.{scalar_of}
 use Rattle.group.specs.Model.{Model}
 use Rattle.hashing.specs.Hashing.{key_id}
@@ -18,11 +19,9 @@ use Rattle.client.specs.Finishing.{code_again, token_made, finish_vetted, confir
 use Rattle.client.proofs.Following.{then_ok, tokens_follow, ok_err}
 
 -- the bytes at the front, and the rest as it was
-pub laid_over : (end : ℕ) (before after : List ℕ) → end ≤ length after → drop end after ≡ drop end before → after ≡ over (take end after) before
+pub laid_over : (n : ℕ) (bytes old : List ℕ) → length bytes ≡ n → bytes ++ drop n old ≡ over bytes old
 unfolding over
-laid_over end before after fits rest =
-    sym (take-append-drop end after)
-    ∙ ap (λ (l : List ℕ). take end after ++ l) (rest ∙ ap (λ (k : ℕ). drop k before) (sym (length-take-le end after fits)))
+laid_over n bytes old long = ap (λ (k : ℕ). bytes ++ drop k old) (sym long)
 
 module _ {E S K : Type 0} (m : Model E S K) (pk : E) (id seeds blinds : List ℕ) (got : Answers) where
   abbrev by_s : List ℕ → S → Result S BatchFault → Result (Unit {0}) BatchFault
@@ -69,6 +68,15 @@ module _ {E S K : Type 0} (m : Model E S K) (scratch epoch n : ℕ) (code seeds 
 
   abbrev confirming : E × Answers → Result (List ℕ) BatchFault
   confirming known = then (confirmed m known.0 (key_id m known.0) seeds blinds known.1) (λ _. written known)
+
+  -- the scratch is tested first, and its length then tells no more
+  pub too_short : scratch < 1024 → finish_answer m scratch epoch n code seeds blinds reply outlet ≡ Err (Wire ShortScratch)
+  unfolding finish_answer finish_vetted
+  too_short short = rw (lt-ltb scratch 1024 short) refl
+
+  pub enough : 1024 ≤ scratch → finish_vetted m scratch epoch n code seeds blinds reply outlet ≡ finish_vetted m 1024 epoch n code seeds blinds reply outlet
+  unfolding finish_vetted
+  enough room = rw (le-ltb scratch 1024 room) refl
 
   pub vetting_stops : (f : BatchFault) → finish_vetted m scratch epoch n code seeds blinds reply outlet ≡ Err f →
       finish_answer m scratch epoch n code seeds blinds reply outlet ≡ Err f

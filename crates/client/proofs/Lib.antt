@@ -1,7 +1,6 @@
 pub mod Walks
 pub mod Requests
 pub mod Replies
-pub mod Making
 pub mod Following
 pub mod Finishes
 pub mod Hashes

@@ -10,7 +10,6 @@ use Rattle.faults.specs.declared.BatchFault.{BatchFault}
 use Rattle.faults.specs.declared.BatchFault.TheVariants.{Wire, Ring}
 use Rattle.scalar.specs.Scalars.{scalar_of}
 use Rattle.group.specs.Model.{Model}
-use Rattle.hashing.specs.Appending.{Appended}
 use Rattle.hashing.specs.Hashing.{authenticator, key_id}
 use Rattle.voprf.specs.Blinding.{unblinded}
 use Rattle.voprf.specs.Proving.{checked}
@@ -20,8 +19,6 @@ use Rattle.messages.specs.Views.{answers}
 use Rattle.messages.specs.declared.Reply.{Reply}
 use Rattle.token.specs.Tokens.{then, of_group, element_of, key_of}
 use Rattle.client.specs.declared.pending.Pending.{Pending}
-use Rattle.client.specs.declared.passes.Pass.{Pass}
-use Rattle.client.specs.declared.passes.Pass.TheVariants.{Check, Write}
 use Rattle.client.specs.declared.finishing.Unfinished.{Unfinished}
 use Rattle.client.specs.Batches.{sent, walked}
 
@@ -46,22 +43,6 @@ module _ {E S K : Type 0} (m : Model E S K) where
   -- the token of an item
   unfoldable pub token_made : List ℕ → List ℕ → List ℕ → Result (List ℕ) GroupFault
   token_made input blind got = then (finalized input blind got) (λ a. Ok (token_bytes input a))
-
-  -- what each of the two passes makes of an item, and how many bytes that has
-  abbrev pub made_by : Pass → List ℕ → List ℕ → List ℕ → Result (List ℕ) GroupFault
-  made_by Check = code_again
-  made_by Write = token_made
-
-  abbrev pub width_of : Pass → ℕ
-  width_of Check = m.element_width
-  width_of Write = 132
-
-  -- what a pass leaves of an item: its bytes at a place, and where they end
-  pub record Laid (pass : Pass) (input blind got before after : List ℕ) (at end : ℕ) : Type 0 where
-    pub part : List ℕ
-    pub made : made_by pass input blind got ≡ Ok part
-    pub wide : length part ≡ width_of pass
-    pub appended : Appended before after at end part
 
   -- a reply to a batch of n items: its length, then its type, its epoch and its n must fit
   unfoldable pub reply_parts : ℕ → ℕ → List ℕ → Result Answers BatchFault

@@ -4,18 +4,18 @@ ghost use Rattle.messages.specs.Views.{answers};
 ghost use Rattle.client.specs.Batches.{outlet_after};
 ghost use Rattle.client.specs.Finishing.{reply_parts, answers_seen, finish_vetted, known_seen, Finishable, confirmed, finish_answer, settled, finished};
 
-use crate::passes::{Pass, walk};
+use crate::items::Batch;
+use crate::order::Order;
+use crate::passes::{Checking, TOKEN, Writing};
 use crate::pending::Pending;
 use faults::{BatchFault, RingFault, WireFault};
 use group::Group;
 use hashing::key_id;
 use messages::{Reply, split_reply, take_header};
 use scratch::{ENOUGH, Scratch};
+use std::marker::PhantomData;
 use token::element;
 use voprf::proving::check;
-
-// How many bytes a token has.
-const TOKEN: usize = 132;
 
 // A finish that was refused: the batch is still pending, and the fault says why. A caller takes it apart by a `let`
 // of its own, not inside the pattern of the `Err`: what a `Result` holds has to be whole there.
@@ -31,13 +31,13 @@ fn read<G: Group>(epoch: u16, count: u8, reply: &[u8]) -> Result<Reply<'_>, Batc
     let (front, rest) = take_header(reply)?;
     let (items, challenge, response) = split_reply::<G>(count, rest)?;
     if front.kind != G::kind() {
-        return Err(BatchFault::Wire(WireFault::WrongType));
+        return Err(WireFault::WrongType.into());
     }
     if front.epoch != epoch {
-        return Err(BatchFault::Ring(RingFault::NotOpen));
+        return Err(RingFault::NotOpen.into());
     }
     if front.count != count {
-        return Err(BatchFault::Wire(WireFault::WrongCount));
+        return Err(WireFault::WrongCount.into());
     }
     Ok(Reply {
         epoch,
@@ -48,83 +48,79 @@ fn read<G: Group>(epoch: u16, count: u8, reply: &[u8]) -> Result<Reply<'_>, Batc
     })
 }
 
-// The checks before any item, in their order: the public key, and the reply in its parts.
+// The checks before any item that come after the scratch's, in their order: the public key, and the reply in its
+// parts.
 fn vet<'a, G: Group>(
-    scratch: usize,
     pending: &Pending,
-    pk: &[u8],
-    seeds: &[u8],
-    blinds: &[u8],
+    order: Order<'_>,
     reply: &'a [u8],
     outlet: usize,
 ) -> Result<(G, Reply<'a>), BatchFault>
-    ensures answer { known_seen result ≡ finish_vetted G.model scratch pending.now.epoch pending.now.count pk.now seeds.now blinds.now reply.now outlet }
-    ensures known { IfOk result (λ p. Finishable G.model scratch pending.now.epoch pending.now.count seeds.now blinds.now (answers p.1) outlet) }
+    ensures answer { known_seen result ≡ finish_vetted G.model 1024 pending.now.epoch pending.now.count order.entry.pk.now order.entry.seeds.now order.entry.blinds.now reply.now outlet }
+    ensures known { IfOk result (λ p. Finishable G.model 1024 pending.now.epoch pending.now.count order.entry.seeds.now order.entry.blinds.now (answers p.1) outlet) }
 {
     let count = pending.count as usize;
-    if scratch < ENOUGH {
-        return Err(BatchFault::Wire(WireFault::ShortScratch));
-    }
-    if pk.len() != G::element_width() {
-        return Err(BatchFault::Wire(WireFault::WrongLength));
-    }
-    if seeds.len() != 64 * count {
-        return Err(BatchFault::Wire(WireFault::WrongLength));
-    }
-    if blinds.len() != count * G::scalar_width() {
-        return Err(BatchFault::Wire(WireFault::WrongLength));
+    if order.pk.len() != G::element_width()
+        || order.seeds.len() != 64 * count
+        || order.blinds.len() != count * G::scalar_width()
+    {
+        return Err(WireFault::WrongLength.into());
     }
     let reply = read::<G>(pending.epoch, pending.count, reply)?;
-    let pk = element::<G>(pk)?;
+    let pk = element::<G>(order.pk)?;
     if outlet < TOKEN * count {
-        return Err(BatchFault::Wire(WireFault::ShortOutlet));
+        return Err(WireFault::ShortOutlet.into());
     }
     Ok((pk, reply))
 }
 
-// Whether one key answered every item of a reply: the items pass one by one, and then the batch's proof does.
+// Whether one key answered every item of a batch: the items pass one by one, and then the batch's proof does.
 fn confirm<G: Group>(
-    bytes: &mut [u8],
+    work: &mut [u8; ENOUGH],
     pk: G,
-    id: &[u8; 32],
-    seeds: &[u8],
-    blinds: &[u8],
-    reply: Reply<'_>,
+    batch: &Batch<'_, G>,
+    challenge: &[u8],
+    response: &[u8],
 ) -> Result<(), BatchFault>
-    requires room { 1024 ≤ length bytes.old }
-    requires few { reply.count ≤ 16 }
-    requires seeds { length seeds.now ≡ 64 * reply.count }
-    requires blinds { length blinds.now ≡ reply.count * G.model.scalars.width }
-    requires items { length reply.items.now ≡ reply.count * G.model.element_width }
-    ensures { result ≡ confirmed G.model pk id.now seeds.now blinds.now (answers reply.entry) }
+    ensures { result ≡ confirmed G.model pk batch.now.id.now batch.now.seeds.now batch.now.blinds.now (record { epoch = batch.now.epoch; count = batch.now.count; items = batch.now.answers.now; challenge = challenge.now; response = response.now }) }
 {
-    let mut sent = [0; 128];
-    let end = walk::<G>(bytes, Pass::Check, id, seeds, blinds, reply, &mut sent)?;
-    let c = G::decode_scalar(reply.challenge)?;
-    let s = G::decode_scalar(reply.response)?;
-    check(bytes, pk, &sent[0..end], reply.items, c, s)
+    let mut codes = [0; 128];
+    let sent = &mut codes[..batch.count as usize * G::element_width()];
+    batch.walk::<Checking>(work, sent)?;
+    let c = G::decode_scalar(challenge)?;
+    let s = G::decode_scalar(response)?;
+    check(work, pk, sent, batch.answers, c, s)
 }
 
 // Checks the whole reply, and then writes the tokens to the front of the outlet.
 fn settle<G: Group>(
     scratch: &mut [u8],
     pending: &Pending,
-    pk: &[u8],
-    seeds: &[u8],
-    blinds: &[u8],
+    order: Order<'_>,
     reply: &[u8],
     outlet: &mut [u8],
 ) -> Result<(), BatchFault>
-    ensures answer { result ≡ settled (finish_answer G.model (length scratch.old) pending.now.epoch pending.now.count pk.now seeds.now blinds.now reply.now (length outlet.old)) }
-    ensures outlet { outlet.new ≡ outlet_after (finish_answer G.model (length scratch.old) pending.now.epoch pending.now.count pk.now seeds.now blinds.now reply.now (length outlet.old)) outlet.old }
+    ensures answer { result ≡ settled (finish_answer G.model (length scratch.old) pending.now.epoch pending.now.count order.entry.pk.now order.entry.seeds.now order.entry.blinds.now reply.now (length outlet.old)) }
+    ensures outlet { outlet.new ≡ outlet_after (finish_answer G.model (length scratch.old) pending.now.epoch pending.now.count order.entry.pk.now order.entry.seeds.now order.entry.blinds.now reply.now (length outlet.old)) outlet.old }
     ensures scratch { scratch.new ≡ replicate (length scratch.old) 0 }
 {
-    let room = scratch.len();
-    let work = Scratch { bytes: scratch };
-    let (pk, reply) = vet::<G>(room, pending, pk, seeds, blinds, reply, outlet.len())?;
+    let guard = Scratch { bytes: scratch };
+    let Some(work) = guard.bytes.first_chunk_mut::<ENOUGH>() else {
+        return Err(WireFault::ShortScratch.into());
+    };
+    let (pk, reply) = vet::<G>(pending, order, reply, outlet.len())?;
     let id = key_id(pk);
-    confirm(work.bytes, pk, &id, seeds, blinds, reply)?;
-    walk::<G>(work.bytes, Pass::Write, &id, seeds, blinds, reply, outlet)?;
+    let batch = Batch {
+        epoch: reply.epoch,
+        count: reply.count,
+        id: &id,
+        seeds: order.seeds,
+        blinds: order.blinds,
+        answers: reply.items,
+        group: PhantomData::<G>,
+    };
+    confirm(work, pk, &batch, reply.challenge, reply.response)?;
+    batch.walk::<Writing>(work, &mut outlet[..TOKEN * reply.count as usize])?;
     Ok(())
 }
 
@@ -132,17 +128,15 @@ fn settle<G: Group>(
 pub fn finish<G: Group>(
     scratch: &mut [u8],
     pending: Pending,
-    pk: &[u8],
-    seeds: &[u8],
-    blinds: &[u8],
+    order: Order<'_>,
     reply: &[u8],
     outlet: &mut [u8],
 ) -> Result<u8, Unfinished>
-    ensures answer { result ≡ finished pending (finish_answer G.model (length scratch.old) pending.epoch pending.count pk.now seeds.now blinds.now reply.now (length outlet.old)) }
-    ensures outlet { outlet.new ≡ outlet_after (finish_answer G.model (length scratch.old) pending.epoch pending.count pk.now seeds.now blinds.now reply.now (length outlet.old)) outlet.old }
+    ensures answer { result ≡ finished pending (finish_answer G.model (length scratch.old) pending.epoch pending.count order.entry.pk.now order.entry.seeds.now order.entry.blinds.now reply.now (length outlet.old)) }
+    ensures outlet { outlet.new ≡ outlet_after (finish_answer G.model (length scratch.old) pending.epoch pending.count order.entry.pk.now order.entry.seeds.now order.entry.blinds.now reply.now (length outlet.old)) outlet.old }
     ensures scratch { scratch.new ≡ replicate (length scratch.old) 0 }
 {
-    match settle::<G>(scratch, &pending, pk, seeds, blinds, reply, outlet) {
+    match settle::<G>(scratch, &pending, order, reply, outlet) {
         Ok(()) => {
             let (_, count) = pending.abandon();
             Ok(count)

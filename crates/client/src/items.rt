@@ -1,79 +1,106 @@
 // The items of a batch, one by one.
-ghost use Rattle.std.specs.Prelude.{◌≡◌, ℕ, ◌+◌, ◌*◌, ◌<◌, ◌≤◌, [], ◌++◌, length, take, IfOk, Ok, Err, MatchResult};
-ghost use Rattle.client.specs.Batches.{of_item, input_under, sent as sent_for, sent_code, walked};
+ghost use Rattle.std.specs.Prelude.{◌≡◌, ℕ, ◌*◌, ◌%◌, ◌≤◌, [], List, length, Ok, Err, Result, MatchResult};
+ghost use Rattle.faults.specs.declared.GroupFault.{GroupFault};
+ghost use Rattle.client.specs.Batches.{input_under, sent as sent_for, walked};
 
 use faults::{BatchFault, GroupFault};
 use group::Group;
-use hashing::{hash_to_group, put};
+use hashing::hash_to_group;
 use messages::token_input;
+use scratch::ENOUGH;
+use std::marker::PhantomData;
 use token::{is_null, nonzero};
 use voprf::blinding::evaluate;
 
-// The input of an item's token, of its seed.
-pub fn input<G: Group>(epoch: u16, id: &[u8; 32], seed: &[u8]) -> [u8; 100]
-    requires { length seed.now ≡ 64 }
+// The input of an item's token, of its seed: a nonce and a context.
+pub fn input<G: Group>(epoch: u16, id: &[u8; 32], seed: &[u8; 64]) -> [u8; 100]
     ensures { result ≡ input_under G.model epoch id.now seed.now }
 {
-    match token_input(G::kind(), epoch, &seed[0..32], &seed[32..64], id) {
+    match token_input(G::kind(), epoch, &seed[..32], &seed[32..], id) {
         Ok(input) => input,
         Err(_) => unreachable(),
     }
 }
 
 // What is sent for an item, where its input does not map to the null. The input is hashed to the group once.
-pub fn send<G: Group>(bytes: &mut [u8], input: &[u8; 100], blind: &[u8]) -> Result<G, GroupFault>
-    requires { 1024 ≤ length bytes.old }
+pub fn send<G: Group>(
+    work: &mut [u8; ENOUGH],
+    input: &[u8; 100],
+    blind: &[u8],
+) -> Result<G, GroupFault>
     ensures { result ≡ sent_for G.model input.now blind.now }
 {
     let r = nonzero::<G>(blind)?;
-    let mapped = hash_to_group::<G>(bytes, input);
+    let mapped = hash_to_group::<G>(work, input);
     if is_null(mapped) {
         return Err(GroupFault::NullInput);
     }
     Ok(evaluate(r, mapped))
 }
 
-// A fault of the group as the item's, which counts from 1.
-pub fn of_item<T>(place: u8, answer: Result<T, GroupFault>) -> Result<T, BatchFault>
-    requires { place < 16 }
-    ensures { result ≡ of_item place answer }
-{
-    match answer {
-        Ok(x) => Ok(x),
-        Err(fault) => Err(BatchFault::Item {
-            item: place + 1,
-            fault,
-        }),
-    }
+// What is made of each item of a batch: bytes, as many of each, of its input, its blind and its answer.
+pub trait Step<G: Group> {
+    ghost made: { List ℕ → List ℕ → List ℕ → Result (List ℕ) GroupFault };
+
+    ghost wide: { ℕ };
+
+    // How many bytes that are.
+    fn width() -> usize
+        ensures { result ≡ wide };
+
+    // Writes them to their place.
+    fn make(
+        work: &mut [u8; ENOUGH],
+        input: &[u8; 100],
+        blind: &[u8],
+        got: &[u8],
+        place: &mut [u8],
+    ) -> Result<(), GroupFault>
+        requires { length place.old ≡ wide }
+        ensures { MatchResult result (λ _. made input.now blind.now got.now ≡ Ok place.new) (λ f. made input.now blind.now got.now ≡ Err f) };
 }
 
-// Puts the codes of the blinded items in a row from the front of `codes`, and answers where they end.
-pub fn blind_items<G: Group>(
-    bytes: &mut [u8],
-    epoch: u16,
-    id: &[u8; 32],
-    seeds: &[u8],
-    blinds: &[u8],
-    count: u8,
-    codes: &mut [u8; 128],
-) -> Result<usize, BatchFault>
-    requires room { 1024 ≤ length bytes.old }
-    requires few { count ≤ 16 }
-    requires seeds { length seeds.now ≡ 64 * count }
-    requires blinds { length blinds.now ≡ count * G.model.scalars.width }
-    ensures codes { MatchResult result (λ end. walked G.model (sent_code G.model) epoch id.now 0 count seeds.now blinds.now [] [] ≡ Ok (take end codes.new)) (λ f. walked G.model (sent_code G.model) epoch id.now 0 count seeds.now blinds.now [] [] ≡ Err f) }
-    ensures end { IfOk result (λ end. end ≡ count * G.model.element_width) }
-{
-    let width = G::scalar_width();
-    let mut at = 0;
-    let mut end = 0;
-    for i in 0..count {
-        let from = 64 * i as usize;
-        let input = input::<G>(epoch, id, &seeds[from..from + 64]);
-        let next = at + width;
-        let sent = of_item(i, send::<G>(bytes, &input, &blinds[at..next]))?;
-        end = put(codes, end, sent.encode().as_slice());
-        at = next;
+// A batch whose lengths are known to fit: its items' seeds, blinds and answers, each in a row. Before there is a
+// reply, no item has an answer.
+#[derive(Drop)]
+pub struct Batch<'a, G: Group> {
+    pub epoch: u16,
+    pub count: u8,
+    pub id: &'a [u8; 32],
+    pub seeds: &'a [u8],
+    pub blinds: &'a [u8],
+    pub answers: &'a [u8],
+    pub group: PhantomData<G>,
+    ghost few: { count ≤ 16 },
+    ghost seeded: { length seeds.now ≡ 64 * count },
+    ghost blinded_each: { length blinds.now ≡ count * G.model.scalars.width },
+    ghost whole: { length answers.now % G.model.element_width ≡ 0 },
+}
+
+impl<G: Group> Batch<'_, G> {
+    // Writes what a step makes of the items in a row.
+    pub fn walk<S: Step<G>>(
+        &self,
+        work: &mut [u8; ENOUGH],
+        out: &mut [u8],
+    ) -> Result<(), BatchFault>
+        requires { length out.old ≡ self.now.count * S.wide }
+        ensures { MatchResult result (λ _. walked G.model S.made self.now.epoch self.now.id.now 0 self.now.count self.now.seeds.now self.now.blinds.now self.now.answers.now [] ≡ Ok out.new) (λ f. walked G.model S.made self.now.epoch self.now.id.now 0 self.now.count self.now.seeds.now self.now.blinds.now self.now.answers.now [] ≡ Err f) }
+    {
+        let width = S::width();
+        let (seeds, _) = self.seeds.as_chunks::<64>();
+        let blinds = self.blinds.chunks_exact(G::scalar_width());
+        let mut answers = self.answers.chunks_exact(G::element_width());
+        for ((i, seed), blind) in (0..self.count).zip(seeds).zip(blinds) {
+            let input = input::<G>(self.epoch, self.id, seed);
+            let got = answers.next().unwrap_or_default();
+            // Stays a place that is reckoned: of the parts that `chunks_exact_mut` lends, a proof knows their lengths
+            // alone once they are given back.
+            let at = i as usize * width;
+            S::make(work, &input, blind, got, &mut out[at..at + width]).map_err(
+                |fault| fault.of_item(i + 1),
+            )?;
+        }
+        Ok(())
     }
-    Ok(end)
 }

@@ -11,11 +11,13 @@ ghost use Rattle.client.specs.Honest.{HonestReplies};
 pub use blinding::blind;
 pub use finishing::{Unfinished, finish};
 use group::Group;
+pub use order::Order;
 pub use pending::Pending;
 
 mod blinding;
 mod finishing;
 mod items;
+mod order;
 mod passes;
 mod pending;
 

@@ -1,54 +1,31 @@
-use Rattle.std.proofs.Common.{refl, rules}
+use Rattle.std.proofs.Common.{rules}
 use Rattle.client.specs.Blinding.{vetted}
 use Rattle.client.proofs.blinding.vet.Goals as goal
 
-pub returns-then-scratch-lt-ENOUGH : goal.returns-then-scratch-lt-ENOUGH
+pub returns-then-epoch-eq0-clause-answer : goal.returns-then-epoch-eq0-clause-answer
 unfolding vetted
-returns-then-scratch-lt-ENOUGH g c = search rules
+returns-then-epoch-eq0-clause-answer g c = search rules
 
-pub returns-then-epoch-eq0 : goal.returns-then-epoch-eq0
+pub returns-then-order-element_width-clause-answer : goal.returns-then-order-element_width-clause-answer
 unfolding vetted
-returns-then-epoch-eq0 g c = search rules
+returns-then-order-element_width-clause-answer g c = search rules
 
-pub returns-then-pk-element_width : goal.returns-then-pk-element_width
+pub returns-then-not-contains-clause-answer : goal.returns-then-not-contains-clause-answer
 unfolding vetted
-returns-then-pk-element_width g c = search rules
+returns-then-not-contains-clause-answer g c = search rules
 
-pub returns-then-seeds-ne0 : goal.returns-then-seeds-ne0
+pub returns-then-order-n-clause-answer : goal.returns-then-order-n-clause-answer
 unfolding vetted
-returns-then-seeds-ne0 g c = search rules
+returns-then-order-n-clause-answer g c = search rules
 
-pub returns-then-n-eq0 : goal.returns-then-n-eq0
+pub returns-in_err-pk-clause-answer : goal.returns-in_err-pk-clause-answer
 unfolding vetted
-returns-then-n-eq0 g c = search rules
+returns-in_err-pk-clause-answer g c = search rules
 
-pub returns-then-n-gt16 : goal.returns-then-n-gt16
+pub returns-then-outlet-request_len-clause-answer : goal.returns-then-outlet-request_len-clause-answer
 unfolding vetted
-returns-then-n-gt16 g c = search rules
+returns-then-outlet-request_len-clause-answer g c = search rules
 
-pub returns-then-blinds-n : goal.returns-then-blinds-n
+pub returns-clause-answer : goal.returns-clause-answer
 unfolding vetted
-returns-then-blinds-n g c = search rules
-
-pub returns-in_err-pk : goal.returns-in_err-pk
-unfolding vetted
-returns-in_err-pk g c = search rules
-
-pub returns-then-outlet-request_len : goal.returns-then-outlet-request_len
-unfolding vetted
-returns-then-outlet-request_len g c = search rules
-
-pub returns : goal.returns
-unfolding vetted
-returns g c = record {
-  answer = search rules;
-  known = record {
-    room = search rules;
-    some = search rules;
-    few = search rules;
-    counted = refl;
-    seeded = search rules;
-    blinded_each = search rules;
-    fits = search rules;
-  };
-}
+returns-clause-answer g c = search rules

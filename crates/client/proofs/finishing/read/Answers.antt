@@ -16,24 +16,24 @@ returns-in_err-items g c =
 
 pub returns-then-front-kind : goal.returns-then-front-kind
 returns-then-front-kind g c =
-    sym (other_kind g.G.Group.model c.args.epoch c.args.count c.args.reply.now c.in_ok-front.front c.in_ok-front.rest.now
+    rw c.into.ensures (sym (other_kind g.G.Group.model c.args.epoch c.args.count c.args.reply.now c.in_ok-front.front c.in_ok-front.rest.now
     (sym c.in_ok-front.ensures) (c.in_ok-items.items.now, c.in_ok-items.challenge.now, c.in_ok-items.response.now)
     (sym c.in_ok-items.ensures)
-    (λ k. c.if-front-kind.true (k ∙ sym c.kind.ensures)))
+    (λ k. c.if-front-kind.true (k ∙ sym c.kind.ensures))))
 
 pub returns-then-front-epoch : goal.returns-then-front-epoch
 returns-then-front-epoch g c =
-    sym (other_epoch g.G.Group.model c.args.epoch c.args.count c.args.reply.now c.in_ok-front.front c.in_ok-front.rest.now
+    rw c.into-then-front-epoch.ensures (sym (other_epoch g.G.Group.model c.args.epoch c.args.count c.args.reply.now c.in_ok-front.front c.in_ok-front.rest.now
     (sym c.in_ok-front.ensures) (c.in_ok-items.items.now, c.in_ok-items.challenge.now, c.in_ok-items.response.now)
     (sym c.in_ok-items.ensures)
-    (c.if-front-kind.false ∙ c.kind.ensures) c.if-front-epoch.true)
+    (c.if-front-kind.false ∙ c.kind.ensures) c.if-front-epoch.true))
 
 pub returns-then-front-count : goal.returns-then-front-count
 returns-then-front-count g c =
-    sym (other_count g.G.Group.model c.args.epoch c.args.count c.args.reply.now c.in_ok-front.front c.in_ok-front.rest.now
+    rw c.into-then-front-count.ensures (sym (other_count g.G.Group.model c.args.epoch c.args.count c.args.reply.now c.in_ok-front.front c.in_ok-front.rest.now
     (sym c.in_ok-front.ensures) (c.in_ok-items.items.now, c.in_ok-items.challenge.now, c.in_ok-items.response.now)
     (sym c.in_ok-items.ensures)
-    (c.if-front-kind.false ∙ c.kind.ensures) c.if-front-epoch.false c.if-front-count.true)
+    (c.if-front-kind.false ∙ c.kind.ensures) c.if-front-epoch.false c.if-front-count.true))
 
 pub returns : goal.returns
 returns g c =

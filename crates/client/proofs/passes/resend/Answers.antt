@@ -2,9 +2,9 @@ use Rattle.std.proofs.Common.{rules}
 use Rattle.client.specs.Finishing.{sent_again}
 use Rattle.client.proofs.passes.resend.Goals as goal
 
-pub returns-in_err-sent : goal.returns-in_err-sent
+pub returns-in_err-again : goal.returns-in_err-again
 unfolding sent_again
-returns-in_err-sent g c = search rules
+returns-in_err-again g c = search rules
 
 pub returns-in_err-element : goal.returns-in_err-element
 unfolding sent_again
