@@ -22,6 +22,8 @@ pub struct Epoch<K> {
 }
 
 // Four places, each free or with an open epoch, and the highest epoch that was ever opened, 0 at first.
+// Stays four fields: an array `[Option<Epoch<K>>; 4]` is proved here, but then each caller that is generic over the
+// group, as `history::run`, has to show that a station fits in memory, which only a new `requires` of it could say.
 #[derive(Clone, Copy)]
 pub struct Ring<K> {
     first: Option<Epoch<K>>,
@@ -35,32 +37,16 @@ pub struct Ring<K> {
 fn held<K: Copy>(place: Option<Epoch<K>>, epoch: u16) -> Option<K>
     ensures { result ≡ held_in place epoch }
 {
-    match place {
-        Some(open) => {
-            if open.number == epoch {
-                Some(open.key)
-            } else {
-                None
-            }
-        }
-        None => None,
-    }
+    place
+        .filter(|open| open.number == epoch)
+        .map(|open| open.key)
 }
 
 // The place without an epoch.
 fn without<K: Copy>(place: Option<Epoch<K>>, epoch: u16) -> Option<Epoch<K>>
     ensures { result ≡ freed epoch place }
 {
-    match place {
-        Some(open) => {
-            if open.number == epoch {
-                None
-            } else {
-                Some(open)
-            }
-        }
-        None => None,
-    }
+    place.filter(|open| open.number != epoch)
 }
 
 impl<K: Copy> Ring<K> {
