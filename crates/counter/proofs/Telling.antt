@@ -7,9 +7,8 @@ use Rattle.book.specs.Making.{Worked}
 use Rattle.commands.specs.declared.Kind.{Kind}
 use Rattle.faults.specs.declared.Refusal.{Refusal}
 use Rattle.faults.specs.declared.WireFault.{WireFault}
-use Rattle.history.specs.Events.{events, told}
+use Rattle.history.specs.Events.{Outcome, events, told}
 use Rattle.history.specs.declared.calls.Call.{Call}
-use Rattle.history.specs.declared.calls.Outcome.{Outcome}
 use Rattle.script.specs.declared.answers.Answer.{Answer}
 use Rattle.script.specs.declared.errors.LineFault.{LineFault}
 use Rattle.script.specs.declared.reading.Shelf.{Shelf}

@@ -8,12 +8,11 @@ use Rattle.commands.specs.declared.Kind.TheVariants.{Res2039, Circ523}
 use Rattle.faults.specs.Numbers.{wire_tells, station_tells}
 use Rattle.faults.specs.declared.Refusal.{Refusal}
 use Rattle.faults.specs.declared.WireFault.{WireFault}
-use Rattle.history.specs.Events.{Event, Told, events, told}
+use Rattle.history.specs.Events.{Outcome, Event, Told, events, told}
 use Rattle.history.specs.Events as history
 use Rattle.history.specs.Law.{Lawful}
 use Rattle.history.specs.declared.calls.Call.{Call}
 use Rattle.history.specs.declared.calls.Call.TheVariants.{Count, Open, Close, Issue, Redeem}
-use Rattle.history.specs.declared.calls.Outcome.{Outcome}
 use Rattle.res2039.specs.Kind.{residues}
 use Rattle.script.specs.Protocol.{Served, open_epoch, close_epoch, issue, redeem, count, served_of}
 use Rattle.script.specs.Reports.{Said, done, number, bytes, outcome_of}

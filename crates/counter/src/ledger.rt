@@ -14,7 +14,7 @@ use chained::Chained;
 use circ523::Point;
 use commands::Kind;
 use faults::{Fault, Refusal, WireFault};
-use history::{Call, Outcome};
+use history::{Call, Outcome, Output};
 use res2039::Residue;
 use script::answers::Answer;
 use script::errors::LineFault;
@@ -83,7 +83,7 @@ impl<'a, 'b> Work for Replay<'a, 'b> {
     ghost told = { λ w b r. Replayed w.kind w.calls.now b.capacity r };
 
     fn on<B: Book + Drop>(self, book: B) -> Result<Option<Outcome>, AllocError> {
-        let mut outcomes = vec![in self.heap; Outcome::Done; self.calls.len()]?;
+        let mut outcomes = vec![in self.heap; Ok(Output::Done); self.calls.len()]?;
         run(self.kind, book, self.calls, outcomes.as_mut_slice());
         Ok(outcomes.pop())
     }
@@ -108,13 +108,13 @@ fn answer(outcome: Outcome, heap: Global) -> Result<Result<Answer, Refusal>, Lin
     ensures { Says (told outcome) result }
 {
     match outcome {
-        Outcome::Done => Ok(Ok(Answer::Done)),
-        Outcome::Number(number) => Ok(Ok(Answer::Number(u64::from(number)))),
-        Outcome::Bytes(written) => {
+        Ok(Output::Done) => Ok(Ok(Answer::Done)),
+        Ok(Output::Number(number)) => Ok(Ok(Answer::Number(u64::from(number)))),
+        Ok(Output::Bytes(written)) => {
             let bytes = Vec::from_slice(heap, written.as_slice())?;
             Ok(Ok(Answer::Bytes(bytes)))
         }
-        Outcome::Refused(fault) => Ok(Err(fault.refusal())),
+        Err(refused) => Ok(Err(refused.refusal())),
     }
 }
 

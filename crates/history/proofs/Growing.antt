@@ -4,7 +4,7 @@ use native.Mathlib.Nat.{suc-min-suc}
 use Rattle.std.proofs.lemmas.List.{take_more, take_more_set, reverse-append, drop-drop}
 use Rattle.group.specs.Model.{Model}
 use Rattle.history.specs.declared.calls.Call.{Call}
-use Rattle.history.specs.declared.calls.Outcome.{Outcome}
+use Rattle.history.specs.Events.{Outcome}
 use Rattle.history.specs.Events.{Event, event, events, told}
 use Rattle.history.specs.Kept.{SoFar}
 use Rattle.history.specs.Law.{Lawful}

@@ -1,11 +1,11 @@
 -- What happened to a station: each call with what it told. A call is accepted where it tells no fault.
-use Rattle.std.specs.Prelude.{ℕ, List, [], ◌∷◌, take}
+use Rattle.std.specs.Prelude.{ℕ, List, [], ◌∷◌, take, Ok, Err, Result}
 use Rattle.faults.specs.declared.StationFault.{StationFault}
 use Rattle.history.specs.declared.calls.Call.{Call}
 use Rattle.history.specs.declared.calls.Call.TheVariants.{Count, Open, Close, Issue, Redeem}
 use Rattle.history.specs.declared.calls.Written.{Written}
-use Rattle.history.specs.declared.calls.Outcome.{Outcome}
-use Rattle.history.specs.declared.calls.Outcome.TheVariants.{Done, Number, Bytes, Refused}
+use Rattle.history.specs.declared.calls.Output.{Output}
+use Rattle.history.specs.declared.calls.Output.TheVariants.{Done, Number, Bytes}
 
 -- what a call told: that it was done, a number, the bytes that it wrote, or its fault
 pub data Told : Type 0 where
@@ -18,11 +18,15 @@ pub data Told : Type 0 where
 abbrev pub written : Written → List ℕ
 written w = take w.len w.bytes
 
+-- what a call gave, or its fault
+abbrev pub Outcome : Type 0
+Outcome = Result Output StationFault
+
 abbrev pub told : Outcome → Told
-told Done = done
-told (Number n) = number n
-told (Bytes w) = bytes (written w)
-told (Refused f) = refused f
+told (Ok Done) = done
+told (Ok (Number n)) = number n
+told (Ok (Bytes w)) = bytes (written w)
+told (Err f) = refused f
 
 pub record Event : Type 0 where
   pub call : Call

@@ -33,6 +33,7 @@ pub enum Call<'a> {
 }
 
 // What a call wrote to the front of its outlet: a public key or a reply.
+// Stays an array with a length beside it: the outcomes of a run are kept with no heap.
 #[derive(Clone, Copy)]
 pub struct Written {
     pub(crate) bytes: [u8; LONGEST],
@@ -48,11 +49,13 @@ impl Written {
     }
 }
 
-// What a call told: that it was done, a number, the bytes that it wrote, or its fault.
+// What a call gave that was not refused: nothing more, a number, or the bytes that it wrote.
 #[derive(Clone, Copy)]
-pub enum Outcome {
+pub enum Output {
     Done,
     Number(u16),
     Bytes(Written),
-    Refused(StationFault),
 }
+
+// What a call told: what it gave, or its fault.
+pub type Outcome = Result<Output, StationFault>;

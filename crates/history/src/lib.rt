@@ -16,41 +16,40 @@ ghost use Rattle.history.specs.Kept.{Kept};
 
 use book::Book;
 use group::Group;
-use scratch::ENOUGH;
+use making::Buffers;
 use station::Station;
 
 mod calls;
 mod making;
 
-pub use calls::{Call, LONGEST, Outcome, Written};
+pub use calls::{Call, LONGEST, Outcome, Output, Written};
 
 // Makes one call. A station that holds what its history says holds it with this call too.
 fn make<G: Group, B: Book>(
     station: &mut Station<G, B>,
-    work: &mut [u8; ENOUGH],
-    bytes: &mut [u8; LONGEST],
+    buffers: &mut Buffers,
     call: &Call<'_>,
 ) -> Outcome
     ensures { (capacity : ℕ) (h : List Event) → Kept G.Group.model capacity h (places station.old.ring) station.old.ring.latest (B.Book.meaning station.old.book) → Kept G.Group.model capacity (event call.now (told result) ∷ h) (places station.new.ring) station.new.ring.latest (B.Book.meaning station.new.book) }
 {
     match *call {
-        Call::Count => Outcome::Number(station.count()),
+        Call::Count => Ok(Output::Number(station.count())),
         Call::Open {
             scratch,
             epoch,
             key,
             outlet,
-        } => making::open(station, work, bytes, scratch, epoch, key, outlet),
-        Call::Close { epoch } => making::number(station.close(epoch)),
+        } => buffers.open(station, scratch, epoch, key, outlet),
+        Call::Close { epoch } => station.close(epoch).map(Output::Number),
         Call::Issue {
             scratch,
             request,
             nonce,
             outlet,
-        } => making::issue(station, work, bytes, scratch, request, nonce, outlet),
-        Call::Redeem { scratch, token } => {
-            making::done(making::redeem(station, work, scratch, token))
-        }
+        } => buffers.issue(station, scratch, request, nonce, outlet),
+        Call::Redeem { scratch, token } => buffers
+            .redeem(station, scratch, token)
+            .map(|()| Output::Done),
     }
 }
 
@@ -62,11 +61,10 @@ pub fn run<G: Group, B: Book + Drop>(book: B, calls: &[Call<'_>], outcomes: &mut
     ensures later { drop result outcomes.new ≡ drop result outcomes.old }
 {
     let mut station = Station::<G, B>::new(book);
-    let mut work = [0; ENOUGH];
-    let mut bytes = [0; LONGEST];
+    let mut buffers = Buffers::new();
     let made = calls.len().min(outcomes.len());
-    for i in 0..made {
-        outcomes[i] = make(&mut station, &mut work, &mut bytes, &calls[i]);
+    for (i, call) in calls[..made].iter().enumerate() {
+        outcomes[i] = make(&mut station, &mut buffers, call);
     }
     made
 }

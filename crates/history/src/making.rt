@@ -6,85 +6,81 @@ ghost use Rattle.station.specs.Issuing.{issue_answer};
 ghost use Rattle.station.specs.Redeeming.{redeemable, Redeems, Closes, closed_places};
 ghost use Rattle.history.specs.Events.{told};
 ghost use Rattle.history.specs.Law.{bytes_told};
-ghost use Rattle.history.specs.Told.{number_told, done_told};
 
-use crate::calls::{LONGEST, Outcome, Written};
+use crate::calls::{LONGEST, Outcome, Output, Written};
 use book::Book;
 use faults::StationFault;
 use group::Group;
 use scratch::ENOUGH;
 use station::Station;
 
-// A scratch above the length that suffices, and an outlet above the longest output, are as good as these.
-pub fn open<G: Group, B: Book>(
-    station: &mut Station<G, B>,
-    work: &mut [u8; ENOUGH],
-    bytes: &mut [u8; LONGEST],
-    scratch: usize,
-    epoch: u16,
-    key: &[u8],
-    outlet: usize,
-) -> Outcome
-    ensures told { told result ≡ bytes_told (published G.Group.model (opening G.Group.model scratch (admits station.old.ring epoch) key.now outlet)) }
-    ensures places { places station.new.ring ≡ places_after (opening G.Group.model scratch (admits station.old.ring epoch) key.now outlet) epoch (places station.old.ring) }
-    ensures latest { station.new.ring.latest ≡ latest_after (opening G.Group.model scratch (admits station.old.ring epoch) key.now outlet) epoch station.old.ring.latest }
-    ensures book { station.new.book ≡ station.old.book }
-{
-    let lent = &mut work[0..scratch.min(ENOUGH)];
-    let room = &mut bytes[0..outlet.min(LONGEST)];
-    match station.open(lent, epoch, key, room) {
-        Ok(len) => Outcome::Bytes(Written { bytes: *bytes, len }),
-        Err(fault) => Outcome::Refused(fault),
+// What is lent to the calls of a run. A scratch above the length that suffices, and an outlet above the longest output,
+// are as good as these.
+#[derive(Drop)]
+pub struct Buffers {
+    scratch: [u8; ENOUGH],
+    outlet: [u8; LONGEST],
+}
+
+impl Buffers {
+    pub fn new() -> Buffers {
+        Buffers {
+            scratch: [0; ENOUGH],
+            outlet: [0; LONGEST],
+        }
     }
-}
 
-pub fn issue<G: Group, B: Book>(
-    station: &Station<G, B>,
-    work: &mut [u8; ENOUGH],
-    bytes: &mut [u8; LONGEST],
-    scratch: usize,
-    request: &[u8],
-    nonce: &[u8],
-    outlet: usize,
-) -> Outcome
-    ensures { told result ≡ bytes_told (issue_answer G.Group.model scratch (key_in (places station.now.ring)) request.now nonce.now outlet) }
-{
-    let lent = &mut work[0..scratch.min(ENOUGH)];
-    let room = &mut bytes[0..outlet.min(LONGEST)];
-    match station.issue(lent, request, nonce, room) {
-        Ok(len) => Outcome::Bytes(Written { bytes: *bytes, len }),
-        Err(fault) => Outcome::Refused(fault),
+    pub fn open<G: Group, B: Book>(
+        &mut self,
+        station: &mut Station<G, B>,
+        scratch: usize,
+        epoch: u16,
+        key: &[u8],
+        outlet: usize,
+    ) -> Outcome
+        ensures told { told result ≡ bytes_told (published G.Group.model (opening G.Group.model scratch (admits station.old.ring epoch) key.now outlet)) }
+        ensures places { places station.new.ring ≡ places_after (opening G.Group.model scratch (admits station.old.ring epoch) key.now outlet) epoch (places station.old.ring) }
+        ensures latest { station.new.ring.latest ≡ latest_after (opening G.Group.model scratch (admits station.old.ring epoch) key.now outlet) epoch station.old.ring.latest }
+        ensures book { station.new.book ≡ station.old.book }
+    {
+        let lent = &mut self.scratch[0..scratch.min(ENOUGH)];
+        let room = &mut self.outlet[0..outlet.min(LONGEST)];
+        let len = station.open(lent, epoch, key, room)?;
+        Ok(Output::Bytes(Written {
+            bytes: self.outlet,
+            len,
+        }))
     }
-}
 
-pub fn redeem<G: Group, B: Book>(
-    station: &mut Station<G, B>,
-    work: &mut [u8; ENOUGH],
-    scratch: usize,
-    token: &[u8],
-) -> Result<(), StationFault>
-    ensures answer { Redeems (redeemable G.Group.model scratch (key_in (places station.old.ring)) token.now) (B.Book.meaning station.old.book) result (B.Book.meaning station.new.book) }
-    ensures ring { station.new.ring ≡ station.old.ring }
-{
-    let lent = &mut work[0..scratch.min(ENOUGH)];
-    station.redeem(lent, token)
-}
-
-// What an answer tells.
-pub fn number(answer: Result<u16, StationFault>) -> Outcome
-    ensures { told result ≡ number_told answer }
-{
-    match answer {
-        Ok(n) => Outcome::Number(n),
-        Err(fault) => Outcome::Refused(fault),
+    pub fn issue<G: Group, B: Book>(
+        &mut self,
+        station: &Station<G, B>,
+        scratch: usize,
+        request: &[u8],
+        nonce: &[u8],
+        outlet: usize,
+    ) -> Outcome
+        ensures { told result ≡ bytes_told (issue_answer G.Group.model scratch (key_in (places station.now.ring)) request.now nonce.now outlet) }
+    {
+        let lent = &mut self.scratch[0..scratch.min(ENOUGH)];
+        let room = &mut self.outlet[0..outlet.min(LONGEST)];
+        let len = station.issue(lent, request, nonce, room)?;
+        Ok(Output::Bytes(Written {
+            bytes: self.outlet,
+            len,
+        }))
     }
-}
 
-pub fn done(answer: Result<(), StationFault>) -> Outcome
-    ensures { told result ≡ done_told answer }
-{
-    match answer {
-        Ok(()) => Outcome::Done,
-        Err(fault) => Outcome::Refused(fault),
+    pub fn redeem<G: Group, B: Book>(
+        &mut self,
+        station: &mut Station<G, B>,
+        scratch: usize,
+        token: &[u8],
+    ) -> Result<(), StationFault>
+        ensures answer { Redeems (redeemable G.Group.model scratch (key_in (places station.old.ring)) token.now) (B.Book.meaning station.old.book) result (B.Book.meaning station.new.book) }
+        ensures ring { station.new.ring ≡ station.old.ring }
+    {
+        let lent = &mut self.scratch[0..scratch.min(ENOUGH)];
+        station.redeem(lent, token)
     }
 }

@@ -1,8 +1,9 @@
 -- Each call keeps what the station holds to what the history says.
-use Rattle.std.proofs.Common.{◌∷◌, sym, ap, subst}
+use Rattle.std.proofs.Common.{◌≡◌, ◌∷◌, sym, ap, subst, rules, tests}
 use Rattle.ring.specs.Places.{places}
 use Rattle.history.specs.Events.{event, told, number}
 use Rattle.history.specs.Kept.{Kept}
+use Rattle.history.specs.Told.{number_told, done_told}
 use Rattle.history.specs.declared.calls.Call.TheVariants.{Open}
 use Rattle.history.proofs.Next.{next_count, next_open, next_close, next_issue, next_redeem}
 use Rattle.history.proofs.make.Goals as goal
@@ -29,9 +30,10 @@ returns-in-Close g c = λ capacity h k.
     let t = c.close.new.self in
     let e = c.close.ensures in
     let a = c.in-Close in
-    subst (λ x. Kept g.G.Group.model capacity (event x (told c.number.result) ∷ h) (places t.ring) t.ring.latest (g.B.Book.meaning t.book)) (sym a.is)
-    (next_close g.G.Group.model capacity h s.ring (g.B.Book.meaning s.book) k a.epoch c.close.result (told c.number.result) t.ring (g.B.Book.meaning t.book)
-    c.number.ensures e.answer e.places e.latest)
+    let said : told c.map.result ≡ number_told c.close.result = search (rules, tests) in
+    subst (λ x. Kept g.G.Group.model capacity (event x (told c.map.result) ∷ h) (places t.ring) t.ring.latest (g.B.Book.meaning t.book)) (sym a.is)
+    (next_close g.G.Group.model capacity h s.ring (g.B.Book.meaning s.book) k a.epoch c.close.result (told c.map.result) t.ring (g.B.Book.meaning t.book)
+    said e.answer e.places e.latest)
 
 pub returns-in-Issue : goal.returns-in-Issue
 returns-in-Issue g c = λ capacity h k.
@@ -46,6 +48,7 @@ returns-in-Redeem g c = λ capacity h k.
     let t = c.redeem.new.station in
     let e = c.redeem.ensures in
     let a = c.in-Redeem in
-    subst (λ x. Kept g.G.Group.model capacity (event x (told c.done.result) ∷ h) (places t.ring) t.ring.latest (g.B.Book.meaning t.book)) (sym a.is)
-    (next_redeem g.G.Group.model capacity h s.ring (g.B.Book.meaning s.book) k a.scratch a.token c.redeem.result (told c.done.result) t.ring (g.B.Book.meaning t.book)
-    c.done.ensures e.answer e.ring)
+    let said : told c.map-in-Redeem.result ≡ done_told c.redeem.result = search (rules, tests) in
+    subst (λ x. Kept g.G.Group.model capacity (event x (told c.map-in-Redeem.result) ∷ h) (places t.ring) t.ring.latest (g.B.Book.meaning t.book)) (sym a.is)
+    (next_redeem g.G.Group.model capacity h s.ring (g.B.Book.meaning s.book) k a.scratch a.token c.redeem.result (told c.map-in-Redeem.result) t.ring (g.B.Book.meaning t.book)
+    said e.answer e.ring)

@@ -1,8 +1,9 @@
-use Rattle.std.proofs.Common.{◌≡◌, ℕ, ◌≤◌, min, [], ◌∷◌, reverse, length, take, drop, None, sym, refl, ap, subst, arith, rules}
+use Rattle.std.proofs.Common.{◌≡◌, ℕ, ◌<◌, ◌≤◌, min, [], ◌∷◌, reverse, length, take, drop, None, sym, refl, ap, subst, arith, rules, length-take-le}
 use native.Mathlib.Nat.{min-le_left, min-le_right}
+use Rattle.std.proofs.lemmas.List.{get_or-take}
 use Rattle.ring.specs.Places.{places}
 use Rattle.history.specs.declared.calls.Call.TheVariants.{Count}
-use Rattle.history.specs.Events.{events}
+use Rattle.history.specs.Events.{event, events, told}
 use Rattle.history.specs.Kept.{Tied, Kept, SoFar}
 use Rattle.history.specs.History.{open_key}
 use Rattle.history.specs.Law.{Lawful}
@@ -30,14 +31,20 @@ loop-i-init g c =
 pub loop-i-preserved : goal.loop-i-preserved
 loop-i-preserved g c =
     let calls = c.args.calls.now in
+    let made = c.min-made.result in
     let os = c.loop-i.outcomes in
     let i = c.loop-i.i in
     let a = min-le_left (length calls) (length c.args.outcomes.now) in
     let b = min-le_right (length calls) (length c.args.outcomes.now) in
     let inv = c.loop-i.invariant in
     let s = c.make.new.station in
+    let most : made ≤ length calls = omega (arith, c.min-made.ensures) in
+    let long : length (take made calls) ≡ made = length-take-le made calls most in
+    let below : i < made = omega arith in
     let more = grown calls os i Count c.make.result (omega arith) (omega (arith, inv.2)) in (
-      subst (λ h. Kept g.G.Group.model (g.B.Book.meaning c.new-station.result.book).capacity h (places s.ring) s.ring.latest (g.B.Book.meaning s.book)) (sym more) (c.make.ensures _ _ inv.0),
+      subst (λ h. Kept g.G.Group.model (g.B.Book.meaning c.new-station.result.book).capacity h (places s.ring) s.ring.latest (g.B.Book.meaning s.book)) (sym more)
+          (subst (λ x. Kept g.G.Group.model (g.B.Book.meaning c.new-station.result.book).capacity (event x (told c.make.result) ∷ reverse (events (take i calls) (take i os))) (places s.ring) s.ring.latest (g.B.Book.meaning s.book))
+          (get_or-take made calls i Count below) (c.make.ensures _ _ inv.0)),
       rest_stays c.args.outcomes.now os i c.make.result inv.1,
       search rules,
     )
@@ -50,6 +57,8 @@ returns g c =
     let m = g.G.Group.model in
     let made = c.min-made.ensures in
     let ended = c.loop-i-test.false in
+    let a = min-le_left (length calls) (length c.args.outcomes.now) in
+    let long : length (take c.min-made.result calls) ≡ c.min-made.result = length-take-le c.min-made.result calls (omega (arith, c.min-made.ensures)) in
     let all : reverse (events (take c.loop-i.i calls) (take c.loop-i.i os)) ≡ reverse (events calls os) =
     ap reverse (events_whole calls os c.loop-i.i (subst (λ (n : ℕ). min (length calls) n ≤ c.loop-i.i) (sym inv.2) (omega arith))) in
     let last : c.loop-i.i ≡ c.min-made.result = let e = c.loop-i.auto.i-end in omega arith in

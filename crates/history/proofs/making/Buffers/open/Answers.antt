@@ -1,0 +1,43 @@
+use Rattle.std.proofs.Common.{◌≡◌, Err, length, ap, ◌∙◌, rules}
+use Rattle.std.proofs.lemmas.Result.{err_from_is_err_and}
+use Rattle.ring.specs.Places.{places, admits}
+use Rattle.station.specs.Answers.{published, places_after, latest_after}
+use Rattle.history.specs.Events.{told}
+use Rattle.history.specs.Law.{bytes_told}
+use Rattle.history.proofs.Lengths.{opening_bounded, lent, laid_told, fault_told}
+use Rattle.history.proofs.making.Buffers.open.Goals as goal
+
+pub returns : goal.returns
+returns g c =
+    let m = g.G.Group.model in
+    let ring = c.args.station.now.ring in
+    let long : length c.args.self.now.scratch ≡ 1024 = search rules in
+    let wide : length c.args.self.now.outlet ≡ 137 = search rules in
+    let e = c.in_ok-len.ensures in
+    let same = opening_bounded m c.args.scratch c.args.outlet _ _ (admits ring c.args.epoch) c.args.key.now
+    (lent c.args.scratch c.min.result 1024 c.args.self.now.scratch long c.min.ensures)
+    (lent c.args.outlet c.min-2.result 137 c.args.self.now.outlet wide c.min-2.ensures) in
+    record {
+      told = laid_told _ c.in_ok-len.len _ c.open.new.outlet _ e.answer e.outlet ∙ ap (λ x. bytes_told (published m x)) same;
+      places = e.places ∙ ap (λ x. places_after x c.args.epoch (places ring)) same;
+      latest = e.latest ∙ ap (λ x. latest_after x c.args.epoch ring.latest) same;
+      book = e.book;
+    }
+
+pub returns-in_err-len : goal.returns-in_err-len
+returns-in_err-len g c =
+    let m = g.G.Group.model in
+    let ring = c.args.station.now.ring in
+    let long : length c.args.self.now.scratch ≡ 1024 = search rules in
+    let wide : length c.args.self.now.outlet ≡ 137 = search rules in
+    let p = err_from_is_err_and c.from_residual.result c.from_residual.ensures.1 in
+    let e = c.in_err-len.ensures in
+    let same = opening_bounded m c.args.scratch c.args.outlet _ _ (admits ring c.args.epoch) c.args.key.now
+    (lent c.args.scratch c.min.result 1024 c.args.self.now.scratch long c.min.ensures)
+    (lent c.args.outlet c.min-2.result 137 c.args.self.now.outlet wide c.min-2.ensures) in
+    record {
+      told = ap told (p.1 ∙ ap (λ f. Err f) p.2) ∙ fault_told _ c.in_err-len.field-0.0 e.answer ∙ ap (λ x. bytes_told (published m x)) same;
+      places = e.places ∙ ap (λ x. places_after x c.args.epoch (places ring)) same;
+      latest = e.latest ∙ ap (λ x. latest_after x c.args.epoch ring.latest) same;
+      book = e.book;
+    }
