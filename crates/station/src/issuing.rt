@@ -63,15 +63,12 @@ fn answer_items<G: Group>(
     ensures codes { MatchResult result (λ end. answer_codes G.model key 0 count items.now [] ≡ Ok (take end codes.new)) (λ f. answer_codes G.model key 0 count items.now [] ≡ Err f) }
     ensures end { IfOk result (λ end. end ≡ count * G.model.element_width) }
 {
-    let width = G::element_width();
-    let mut at = 0;
-    for i in 0..count {
-        let next = at + width;
-        let sent = item::<G>(i, &items[at..next])?;
-        let _end = put(codes, at, evaluate(key, sent).encode().as_slice());
-        at = next;
+    let mut end = 0;
+    for (place, code) in (0..count).zip(items.chunks_exact(G::element_width())) {
+        let sent = item::<G>(place, code)?;
+        end = put(codes, end, evaluate(key, sent).encode().as_slice());
     }
-    Ok(at)
+    Ok(end)
 }
 
 // Writes the reply to a request that may be answered to the front of the outlet, and answers its length.

@@ -50,6 +50,7 @@ impl<G: Group, B: Book> Station<G, B> {
     }
 
     // Opens an epoch under a key, and writes the code of its public key to the front of the outlet.
+    // Stays with its opening written out in each clause: a word for it would take the same six arguments.
     pub fn open(
         &mut self,
         scratch: &mut [u8],

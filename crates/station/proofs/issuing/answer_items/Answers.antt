@@ -1,76 +1,104 @@
-use Rattle.std.proofs.Common.{◌≡◌, ℕ, ◌+◌, ◌-◌, ◌*◌, List, ◌++◌, length, take, drop, Ok, Err, sym, refl, ap, ◌∙◌, arith, rules}
+use Rattle.std.proofs.Common.{◌≡◌, ℕ, ◌+◌, ◌-◌, ◌*◌, ◌<◌, ◌≤◌, List, [], ◌++◌, length, take, Ok, Err, sym, refl, ap, ◌∙◌, arith, rules, inl, inr}
 use Rattle.std.proofs.lemmas.Result.{err_from_is_err_and}
 use Rattle.group.proofs.Weighing.{item_within}
 use Rattle.voprf.proofs.Sums.{next_place}
-use Rattle.station.specs.Issuing.{answer_codes}
-use Rattle.station.proofs.Items.{onward, finished}
+use Rattle.token.specs.Tokens.{element_of}
+use Rattle.station.specs.Issuing.{of_item, answer_codes}
+use Rattle.station.proofs.Items.{onward, finished, fewer, none_left}
 use Rattle.station.proofs.issuing.answer_items.Goals as goal
 
-pub overflow_add-next : goal.overflow_add-next
-overflow_add-next g c =
-    let e = c.element_width-width.ensures in
-    let inside = item_within c.loop-i.at c.loop-i.i g.G.Group.model.element_width c.args.count (length c.args.items.now)
-    c.loop-i-test.true c.loop-i.invariant.0 c.requires.whole in
-    search rules
+pub loop-place-init : goal.loop-place-init
+loop-place-init g c =
+    let m = g.G.Group.model in
+    let zipped = c.zip-place-items.ensures in
+    let all : c.args.count - 0 ≡ c.args.count = omega arith in
+    rw (c.into_iter-place-iterator.ensures.into_iter_gives, zipped.first, zipped.second, c.chunks_exact.ensures.rest) (
+      c.requires.whole ∙ ap (λ (n : ℕ). n * m.element_width) (sym all),
+      c.chunks_exact.ensures.size ∙ c.element_width.ensures,
+      refl,
+      omega arith,
+      omega arith,
+      search rules,
+      ap (λ (n : ℕ). answer_codes m c.args.key 0 n c.args.items.now []) all,
+    )
 
-pub slice_bounds-item-end : goal.slice_bounds-item-end
-slice_bounds-item-end g c =
-    let e = c.element_width-width.ensures in
-    let inside = item_within c.loop-i.at c.loop-i.i g.G.Group.model.element_width c.args.count (length c.args.items.now)
-    c.loop-i-test.true c.loop-i.invariant.0 c.requires.whole in
-    search rules
+pub item-requires : goal.item-requires
+item-requires g c =
+    let step = c.in-Some.ensures.steps in
+    let inv = c.loop-place.invariant in
+    let few = c.requires.few in
+    omega (arith, step.0.1.0, step.0.1.1)
 
 pub put-end-requires : goal.put-end-requires
 put-end-requires g c =
     let m = g.G.Group.model in
+    let step = c.in-Some.ensures.steps in
+    let inv = c.loop-place.invariant in
     let wide : length c.as_slice.result.now ≡ m.element_width =
     ap length (c.as_slice.ensures ∙ c.encode.ensures) ∙ m.coded c.evaluate.result in
     let few = c.requires.few in
     let fits = m.element_fits in
-    let place = c.loop-i.invariant.0 in
-    let long = c.loop-i.invariant.1 in
-    let inside = item_within c.loop-i.at c.loop-i.i m.element_width 16 (16 * m.element_width) (omega arith) place refl in
+    let below : c.loop-place.place-iterator.a.start < 16 = omega (arith, step.0.1.0) in
+    let inside = item_within c.loop-place.end c.loop-place.place-iterator.a.start m.element_width 16 (16 * m.element_width) below inv.4 refl in
     omega arith
 
-pub loop-i-preserved : goal.loop-i-preserved
-loop-i-preserved g c =
+pub loop-place-preserved : goal.loop-place-preserved
+loop-place-preserved g c =
     let m = g.G.Group.model in
-    let i = c.loop-i.i in
-    let at = c.loop-i.at in
-    let width = c.element_width-width.result in
+    let step = c.in-Some.ensures.steps in
+    let inv = c.loop-place.invariant in
+    let from = c.loop-place.place-iterator.a.start in
+    let rest = c.loop-place.place-iterator.b.rest.now in
+    let later = c.next.new.self.b.rest.now in
+    let count = c.args.count in
+    let below : from < count = omega (arith, step.0.1.0) in
+    let wide : length c.in-Some.code.now ≡ m.element_width = step.1.1.1 ∙ inv.1 in
     let coded : c.as_slice.result.now ≡ m.code c.evaluate.result = c.as_slice.ensures ∙ c.encode.ensures in
-    let wide : length c.as_slice.result.now ≡ m.element_width = ap length coded ∙ m.coded c.evaluate.result in
-    let stayed : length c.put-end.new.bytes ≡ length c.loop-i.codes = c.put-end.auto.bytes in
-    let ends : at + width ≡ c.put-end.result = omega (arith, c.put-end.ensures.ends, c.element_width-width.ensures) in (
-      next_place at i m.element_width width c.loop-i.invariant.0 c.element_width-width.ensures,
-      stayed ∙ c.loop-i.invariant.1,
-      ap (answer_codes m c.args.key (i + 1) (c.args.count - (i + 1)) (drop (at + width) c.args.items.now))
-          (ap (λ (n : ℕ). take n c.put-end.new.bytes) ends
-          ∙ c.put-end.ensures.front
-          ∙ ap (λ (l : List ℕ). take at c.loop-i.codes ++ l) (coded ∙ ap m.code c.evaluate.ensures))
-          ∙ onward m c.args.key i c.args.count c.args.items.now (take at c.loop-i.codes) at width (at + width - at)
-          (Ok c.in_ok-sent.sent) c.loop-i-test.true c.element_width-width.ensures (omega arith) c.in_ok-sent.ensures
-          ∙ c.loop-i.invariant.2,
+    let long : length c.as_slice.result.now ≡ m.element_width = ap length coded ∙ m.coded c.evaluate.result in
+    let next : c.next.new.self.a.start ≡ from + 1 = step.0.1.2 in
+    let ends : c.put-end.result ≡ c.loop-place.end + m.element_width = omega (arith, c.put-end.ensures.ends) in
+    let goes = onward m c.args.key from count rest c.in-Some.code.now later (take c.loop-place.end c.loop-place.codes) (Ok c.in_ok-sent.sent) below step.1.1.0 wide
+    (c.in_ok-sent.ensures ∙ ap (λ (n : ℕ). of_item n (element_of m c.in-Some.code.now)) step.0.1.1) in (
+      fewer count from m.element_width rest c.in-Some.code.now later below inv.0 step.1.1.0 wide ∙ ap (λ (n : ℕ). (count - n) * m.element_width) (sym next),
+      step.1.0 ∙ inv.1,
+      step.0.0 ∙ inv.2,
+      omega arith,
+      ends ∙ next_place c.loop-place.end from m.element_width m.element_width inv.4 refl ∙ ap (λ (n : ℕ). n * m.element_width) (sym next),
+      c.put-end.auto.bytes ∙ inv.5,
+      ap (λ (n : ℕ). answer_codes m c.args.key n (count - n) later (take c.put-end.result c.put-end.new.bytes)) next
+          ∙ ap (answer_codes m c.args.key (from + 1) (count - (from + 1)) later)
+          (c.put-end.ensures.front ∙ ap (λ (l : List ℕ). take c.loop-place.end c.loop-place.codes ++ l) (coded ∙ ap m.code c.evaluate.ensures))
+          ∙ goes
+          ∙ inv.6,
     )
 
 pub returns-in_err-sent : goal.returns-in_err-sent
 returns-in_err-sent g c =
     let m = g.G.Group.model in
-    let i = c.loop-i.i in
-    let at = c.loop-i.at in
-    let width = c.element_width-width.result in
+    let step = c.in-Some.ensures.steps in
+    let inv = c.loop-place.invariant in
+    let from = c.loop-place.place-iterator.a.start in
+    let below : from < c.args.count = omega (arith, step.0.1.0) in
+    let wide : length c.in-Some.code.now ≡ m.element_width = step.1.1.1 ∙ inv.1 in
     let p = err_from_is_err_and c.from_residual.result c.from_residual.ensures.1 in
-    let stops = onward m c.args.key i c.args.count c.args.items.now (take at c.loop-i.codes) at width (at + width - at)
-    (Err c.in_err-sent.field-0.0) c.loop-i-test.true c.element_width-width.ensures (omega arith) c.in_err-sent.ensures
-    ∙ c.loop-i.invariant.2 in
+    let stops = onward m c.args.key from c.args.count c.loop-place.place-iterator.b.rest.now c.in-Some.code.now c.next.new.self.b.rest.now
+    (take c.loop-place.end c.loop-place.codes) (Err c.in_err-sent.field-0.0) below step.1.1.0 wide
+    (c.in_err-sent.ensures ∙ ap (λ (n : ℕ). of_item n (element_of m c.in-Some.code.now)) step.0.1.1)
+    ∙ inv.6 in
     rw (p.1, p.2) (record { codes = sym stops; end = tt })
 
 pub returns : goal.returns
 returns g c =
     let m = g.G.Group.model in
-    let last : c.loop-i.i ≡ c.args.count = omega arith in
+    let inv = c.loop-place.invariant in
+    let from = c.loop-place.place-iterator.a.start in
+    let ended : c.args.count ≤ from =
+    elim c.in-None.ensures.steps [
+      | inl over ↦ omega (arith, over.1.1.0, inv.2)
+      | inr short ↦ none_left c.args.count from m.element_width (length c.loop-place.place-iterator.b.rest.now) inv.0 (omega (arith, short.1.1.0, inv.1))
+    ] in
+    let last : from ≡ c.args.count = omega arith in
     record {
-      codes = sym c.loop-i.invariant.2
-          ∙ finished m c.args.key c.loop-i.i c.args.count (drop c.loop-i.at c.args.items.now) (take c.loop-i.at c.loop-i.codes) c.loop-i-test.false;
-      end = c.loop-i.invariant.0 ∙ ap (λ (n : ℕ). n * m.element_width) last;
+      codes = sym inv.6 ∙ finished m c.args.key from c.args.count c.loop-place.place-iterator.b.rest.now (take c.loop-place.end c.loop-place.codes) ended;
+      end = inv.4 ∙ ap (λ (n : ℕ). n * m.element_width) last;
     }

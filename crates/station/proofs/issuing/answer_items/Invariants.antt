@@ -1,10 +1,16 @@
-use Rattle.std.proofs.Common.{◌≡◌, ◌-◌, ◌*◌, [], length, take, drop}
+use Rattle.std.proofs.Common.{◌≡◌, ℕ, ◌-◌, ◌*◌, ◌≤◌, [], length, take}
 use Rattle.station.specs.Issuing.{answer_codes}
 use Rattle.station.proofs.issuing.answer_items.Given as goal
 
-abbrev pub invariant-loop-i : goal.invariant-loop-i
-invariant-loop-i g l =
-    (l.at ≡ l.i * g.G.Group.model.element_width)
+-- the places from the start on are left, with their items, and the answers so far stand in front
+abbrev pub invariant-loop-place : goal.invariant-loop-place
+invariant-loop-place g l =
+    let m = g.G.Group.model in
+    let from : ℕ = l.place-iterator.a.start in
+    (length l.place-iterator.b.rest.now ≡ (l.fn.count - from) * m.element_width)
+    × (l.place-iterator.b.size ≡ m.element_width)
+    × (l.place-iterator.a.end ≡ l.fn.count)
+    × (from ≤ l.fn.count)
+    × (l.end ≡ from * m.element_width)
     × (length l.codes ≡ 128)
-    × (answer_codes g.G.Group.model l.key l.i (l.count - l.i) (drop l.at l.items) (take l.at l.codes)
-    ≡ answer_codes g.G.Group.model l.key 0 l.count l.items [])
+    × (answer_codes m l.fn.key from (l.fn.count - from) l.place-iterator.b.rest.now (take l.end l.codes) ≡ answer_codes m l.fn.key 0 l.fn.count l.fn.items [])
