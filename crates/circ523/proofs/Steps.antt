@@ -6,7 +6,8 @@ use Rattle.scalar.specs.declared.modular.Scalar.{Scalar}
 use Rattle.circle.specs.declared.Pair.{Pair}
 use Rattle.circle.specs.Circle as circle
 use Rattle.circle.specs.Circle.{times, base, Member}
-use Rattle.circle.proofs.Algebra.{same, times_zero}
+use Rattle.circle.specs.Sums.{same}
+use Rattle.circle.proofs.Algebra.{times_zero}
 use Rattle.circle.proofs.Covered.{same_pairs}
 use Rattle.circle.proofs.Cyclic.{numbered, multiple_member, opposite_multiple}
 use Rattle.group.specs.Elements.{null, generator, sum, opposite, base_multiple}

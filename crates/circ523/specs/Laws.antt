@@ -10,7 +10,7 @@ use Rattle.numbers.proofs.Codes.{only_codes, found_by_code}
 use Rattle.scalar.specs.Modulo.{modulo}
 use Rattle.circle.specs.declared.Pair.{Pair}
 use Rattle.circle.specs.Circle.{times, base, Member}
-use Rattle.circle.proofs.Algebra.{same}
+use Rattle.circle.specs.Sums.{same}
 use Rattle.circle.proofs.Covered.{same_pairs}
 use Rattle.circle.proofs.Cyclic.{numbered}
 use Rattle.circ523.specs.declared.point.Point.{Point}

@@ -5,7 +5,7 @@ use Rattle.std.proofs.lemmas.Bool.Decides.{Decides-eqb, Decides-and, Decides-lik
 use Rattle.circle.specs.declared.Pair.{Pair}
 use Rattle.circle.specs.Circle.{base, times, same_pair, OnCircle}
 use Rattle.numbers.specs.Numbered.{Same}
-use Rattle.circle.proofs.Algebra.{alike, same}
+use Rattle.circle.specs.Sums.{alike, same}
 use Rattle.numbers.proofs.Logarithms.{true_from}
 use Rattle.numbers.proofs.Table.{both, both_left, both_right, every, at, below, below_at}
 

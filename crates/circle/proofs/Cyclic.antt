@@ -7,7 +7,8 @@ use Rattle.circle.specs.Circle.{plus, opposite, null, base, times, same_pair, Me
 use Rattle.numbers.specs.Numbered.{Numbered, number_of}
 use Rattle.numbers.proofs.Logarithms.{log_below, at_log}
 use Rattle.numbers.proofs.Table.{below, below_at}
-use Rattle.circle.proofs.Algebra.{plus_comm, plus_assoc, plus_opposite, null_plus, times_x, times_y, null_times, times_zero, times_suc, times_add, times_times, circle_times}
+use Rattle.circle.specs.Sums.{plus_comm, plus_assoc, null_plus}
+use Rattle.circle.proofs.Algebra.{plus_opposite, times_x, times_y, null_times, times_zero, times_suc, times_add, times_times, circle_times}
 use Rattle.circle.proofs.Covered.{Multiple, same_pairs, four}
 
 -- 131·G is null

@@ -6,7 +6,8 @@ use Rattle.scalar.specs.Inverse.{inverse_number}
 use Rattle.scalar.specs.Laws.{inverse_found}
 use Rattle.numbers.proofs.Mod.{mod_mul_left}
 use Rattle.numbers.proofs.Table.{below, below_at}
-use Rattle.circle.proofs.Algebra.{alike, equal, norm}
+use Rattle.circle.specs.Sums.{alike, equal}
+use Rattle.circle.proofs.Algebra.{norm}
 use Rattle.circle.proofs.Covered.{four}
 use Rattle.circle.proofs.Cyclic.{numbered}
 use Rattle.circle.proofs.Field.{field}

@@ -3,7 +3,8 @@ use Rattle.std.proofs.Common.{◌+◌, ◌*◌, ◌%◌, ◌∙◌, mod-lt, arit
 use native.Mathlib.Nat.{mod-add-mod}
 use Rattle.scalar.specs.Laws.{inverse_found}
 use Rattle.circle.specs.Laws.{CircleLaws}
-use Rattle.circle.proofs.Algebra.{alike, circle_plus, plus_assoc, plus_comm, null_plus, plus_opposite}
+use Rattle.circle.specs.Sums.{alike, plus_assoc, plus_comm, null_plus}
+use Rattle.circle.proofs.Algebra.{circle_plus, plus_opposite}
 use Rattle.circle.proofs.Cyclic.{numbered, multiple_member}
 use Rattle.circle.proofs.Field.{field}
 use Rattle.circle.proofs.Fourfold.{four_member, invertible, slope_circle, mapped_member}

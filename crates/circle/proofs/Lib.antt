@@ -1,5 +1,4 @@
 pub mod Algebra
-pub mod Doubling
 pub mod Covered
 pub mod Cyclic
 pub mod Fourfold

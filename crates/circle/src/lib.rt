@@ -9,9 +9,11 @@
 
 ghost use Rattle.std.specs.Prelude.{◌≡◌, ◌+◌, ◌*◌, ◌%◌, ◌<◌, Decides};
 ghost use Rattle.scalar.specs.Inverse.{inverse_number};
-ghost use Rattle.circle.specs.Circle.{plus, times, opposite, OnCircle, Member, slope_point, mapped_pair};
+ghost use Rattle.circle.specs.Circle.{plus, null, times, opposite, OnCircle, Member, slope_point, mapped_pair};
 ghost use Rattle.circle.specs.Laws.{CircleLaws};
+ghost use Rattle.circle.specs.Sums.{sums};
 
+use numbers::repeated::{Join, repeated};
 use scalar::{Order, Reckoner, Scalar};
 
 // The modulus, a prime, and the number that stands for -1: with it no difference is ever below zero.
@@ -53,21 +55,11 @@ impl Pair {
         }
     }
 
-    // The n-fold sum, by doubling.
+    // The n-fold sum.
     pub fn times(self, n: u16) -> Pair
         ensures { result ≡ times n self }
     {
-        let mut total = Pair::NULL;
-        let mut doubled = self;
-        let mut left = n;
-        while left > 0 {
-            if left % 2 == 1 {
-                total = total.sum(doubled);
-            }
-            doubled = doubled.sum(doubled);
-            left /= 2;
-        }
-        total
+        repeated(self, n)
     }
 
     // Whether x² + y² is 1.
@@ -84,6 +76,22 @@ impl Pair {
     {
         self.x < 523 && self.y < 523 && self.on_circle() && self.times(131) == Pair::NULL
     }
+}
+
+impl Join for Pair {
+    ghost nothing = { null };
+
+    ghost joined = { plus };
+
+    fn null() -> Pair {
+        Pair::NULL
+    }
+
+    fn join(self, other: Pair) -> Pair {
+        self.sum(other)
+    }
+
+    ghost laws = { sums };
 }
 
 // The numbers modulo the prime 523.

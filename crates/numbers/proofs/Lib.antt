@@ -8,3 +8,4 @@ pub mod Logarithms
 pub mod Codes
 pub mod Tabled
 pub mod Writing
+pub mod Doubling

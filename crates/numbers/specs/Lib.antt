@@ -4,3 +4,4 @@ pub mod Sought
 pub mod Cycle
 pub mod Numbered
 pub mod Writing
+pub mod Repeated

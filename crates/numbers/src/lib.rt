@@ -9,6 +9,7 @@ ghost use Rattle.std.specs.Prelude.{◌≡◌, ℕ, ◌+◌, ◌*◌, ◌/◌, �
 ghost use Rattle.numbers.specs.Bytes.{word, code_bytes};
 
 pub mod code;
+pub mod repeated;
 pub mod writer;
 
 pub use code::Code;

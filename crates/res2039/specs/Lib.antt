@@ -3,3 +3,4 @@ pub mod Elements
 pub mod Laws
 pub mod Kind
 pub mod Worked
+pub mod Factors

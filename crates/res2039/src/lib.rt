@@ -6,11 +6,13 @@
 #![tactic(auto)]
 
 ghost use Rattle.std.specs.Prelude.{◌≡◌, ℕ, ◌+◌, ◌-◌, ◌*◌, ◌/◌, ◌%◌, ◌^◌, ◌<◌, ◌≤◌, List, [], ◌∷◌};
+ghost use Rattle.res2039.specs.Factors.{one, times, products};
 ghost use Rattle.res2039.specs.Kind.{residues};
 ghost use Rattle.res2039.specs.Worked.{Worked};
 
 use faults::GroupFault;
 use group::Group;
+use numbers::repeated::{Join, repeated};
 use numbers::{Code, leading_word};
 use scalar::{NonZero, Order, Scalar};
 
@@ -28,22 +30,38 @@ fn power_of_four(k: u16) -> u16
     powers_of_four()[k as usize]
 }
 
-// a to the power e, by squaring.
+// a times b.
+fn product(a: u16, b: u16) -> u16
+    ensures { result ≡ a * b % 2039 }
+{
+    (u32::from(a) * u32::from(b) % 2039) as u16
+}
+
+// A number that is multiplied modulo 2039.
+#[derive(Clone, Copy)]
+struct Factor(u16);
+
+impl Join for Factor {
+    ghost nothing = { one };
+
+    ghost joined = { times };
+
+    fn null() -> Factor {
+        Factor(1)
+    }
+
+    fn join(self, other: Factor) -> Factor {
+        Factor(product(self.0, other.0))
+    }
+
+    ghost laws = { products };
+}
+
+// a to the power e.
 fn raised(a: u16, e: u16) -> u16
-    requires { a < 2039 }
     ensures { result ≡ a ^ e % 2039 }
 {
-    let mut r: u32 = 1;
-    let mut d: u32 = a as u32;
-    let mut k = e;
-    while k > 0 {
-        if k % 2 == 1 {
-            r = (r * d) % 2039;
-        }
-        d = (d * d) % 2039;
-        k = k / 2;
-    }
-    r as u16
+    repeated(Factor(a), e).0
 }
 
 impl Group for Residue {
@@ -82,7 +100,7 @@ impl Group for Residue {
 
     fn sum(self, other: Residue) -> Residue {
         Residue {
-            value: (self.value as u32 * other.value as u32 % 2039) as u16,
+            value: product(self.value, other.value),
         }
     }
 

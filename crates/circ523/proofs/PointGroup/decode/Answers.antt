@@ -4,7 +4,7 @@ use Rattle.group.proofs.Codes.{decodes, refuses}
 use Rattle.circ523.specs.Kind.{points}
 use Rattle.circle.specs.Circle.{Member}
 use Rattle.circle.specs.declared.Pair.{Pair}
-use Rattle.circle.proofs.Algebra.{same}
+use Rattle.circle.specs.Sums.{same}
 use Rattle.circ523.proofs.Steps.{other_length, read_pair, code_read, no_member}
 use Rattle.circ523.proofs.PointGroup.decode.Goals as goal
 
