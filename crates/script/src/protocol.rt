@@ -102,88 +102,57 @@ pub fn read(word: Word, mut arguments: Arguments<'_>) -> Result<Action, LineFaul
     requires { arguments.next < 5 }
     ensures { Acts (acted (holds arguments.entry.names.now) word arguments.entry.next (left arguments.entry.words)) result }
 {
-    match word {
-        Word::Scratch => {
-            let length = arguments.number(LONGEST)?;
-            arguments.end()?;
-            Ok(Action::Scratch { length })
-        }
-        Word::Outlet => {
-            let length = arguments.room()?;
-            arguments.end()?;
-            Ok(Action::Outlet { length })
-        }
-        Word::Blind => {
-            let epoch = arguments.epoch()?;
-            let pk = arguments.bytes()?;
-            let seeds = arguments.bytes()?;
-            let blinds = arguments.bytes()?;
-            arguments.end()?;
-            Ok(Action::Blind {
-                epoch,
-                pk,
-                seeds,
-                blinds,
-            })
-        }
-        Word::Finish => {
-            let pk = arguments.bytes()?;
-            let seeds = arguments.bytes()?;
-            let blinds = arguments.bytes()?;
-            let reply = arguments.bytes()?;
-            arguments.end()?;
-            Ok(Action::Finish {
-                pk,
-                seeds,
-                blinds,
-                reply,
-            })
-        }
-        Word::Abandon => {
-            arguments.end()?;
-            Ok(Action::Abandon)
-        }
-        Word::Station => {
-            let shelf = arguments.shelf()?;
-            let length = arguments.number(LONGEST)?;
-            arguments.end()?;
-            Ok(Action::Station { shelf, length })
-        }
-        Word::Open => {
-            let epoch = arguments.epoch()?;
-            let key = arguments.bytes()?;
-            arguments.end()?;
-            Ok(Action::Serve {
-                service: Service::Open { epoch, key },
-            })
-        }
-        Word::Close => {
-            let epoch = arguments.epoch()?;
-            arguments.end()?;
-            Ok(Action::Serve {
-                service: Service::Close { epoch },
-            })
-        }
+    let action = match word {
+        Word::Scratch => Action::Scratch {
+            length: arguments.number(LONGEST)?,
+        },
+        Word::Outlet => Action::Outlet {
+            length: arguments.room()?,
+        },
+        Word::Blind => Action::Blind {
+            epoch: arguments.epoch()?,
+            pk: arguments.bytes()?,
+            seeds: arguments.bytes()?,
+            blinds: arguments.bytes()?,
+        },
+        Word::Finish => Action::Finish {
+            pk: arguments.bytes()?,
+            seeds: arguments.bytes()?,
+            blinds: arguments.bytes()?,
+            reply: arguments.bytes()?,
+        },
+        Word::Abandon => Action::Abandon,
+        Word::Station => Action::Station {
+            shelf: arguments.shelf()?,
+            length: arguments.number(LONGEST)?,
+        },
+        Word::Open => Action::Serve {
+            service: Service::Open {
+                epoch: arguments.epoch()?,
+                key: arguments.bytes()?,
+            },
+        },
+        Word::Close => Action::Serve {
+            service: Service::Close {
+                epoch: arguments.epoch()?,
+            },
+        },
         Word::Issue => {
             let request = arguments.bytes()?;
             let nonce = arguments.bytes()?;
-            arguments.end()?;
-            Ok(Action::Serve {
+            Action::Serve {
                 service: Service::Issue { request, nonce },
-            })
+            }
         }
-        Word::Redeem => {
-            let token = arguments.bytes()?;
-            arguments.end()?;
-            Ok(Action::Serve {
-                service: Service::Redeem { token },
-            })
-        }
-        Word::Count => {
-            arguments.end()?;
-            Ok(Action::Serve {
-                service: Service::Count,
-            })
-        }
-    }
+        Word::Redeem => Action::Serve {
+            service: Service::Redeem {
+                token: arguments.bytes()?,
+            },
+        },
+        Word::Count => Action::Serve {
+            service: Service::Count,
+        },
+    };
+    arguments.end()?;
+    Ok(action)
 }

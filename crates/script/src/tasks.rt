@@ -79,95 +79,63 @@ pub fn read(statement: Statement<'_>, names: &Names, heap: Global) -> Result<Tas
         names,
         heap,
     };
-    match statement.command {
-        Command::Digest => {
-            let input = arguments.bytes()?;
-            arguments.end()?;
-            Ok(Task::Digest { input })
-        }
-        Command::Group => {
-            let kind = arguments.kind()?;
-            arguments.end()?;
-            Ok(Task::Group { kind })
-        }
-        Command::Decode => {
-            let code = arguments.bytes()?;
-            arguments.end()?;
-            Ok(Task::Decode { code })
-        }
-        Command::Map => {
-            let bytes = arguments.bytes()?;
-            arguments.end()?;
-            Ok(Task::Map { bytes })
-        }
-        Command::Base => {
-            let scalar = arguments.bytes()?;
-            arguments.end()?;
-            Ok(Task::Base { scalar })
-        }
-        Command::Input => {
-            let epoch = arguments.epoch()?;
-            let nonce = arguments.bytes()?;
-            let context = arguments.bytes()?;
-            let pk = arguments.bytes()?;
-            arguments.end()?;
-            Ok(Task::Input {
-                epoch,
-                nonce,
-                context,
-                pk,
-            })
-        }
+    let task = match statement.command {
+        Command::Digest => Task::Digest {
+            input: arguments.bytes()?,
+        },
+        Command::Group => Task::Group {
+            kind: arguments.kind()?,
+        },
+        Command::Decode => Task::Decode {
+            code: arguments.bytes()?,
+        },
+        Command::Map => Task::Map {
+            bytes: arguments.bytes()?,
+        },
+        Command::Base => Task::Base {
+            scalar: arguments.bytes()?,
+        },
+        Command::Input => Task::Input {
+            epoch: arguments.epoch()?,
+            nonce: arguments.bytes()?,
+            context: arguments.bytes()?,
+            pk: arguments.bytes()?,
+        },
         Command::Direct => {
             let key = arguments.bytes()?;
             let input = arguments.bytes()?;
-            arguments.end()?;
-            Ok(Task::Direct { key, input })
+            Task::Direct { key, input }
         }
-        Command::Book => {
-            let shelf = arguments.shelf()?;
-            let length = arguments.number(LONGEST)?;
-            arguments.end()?;
-            Ok(Task::Book { shelf, length })
-        }
-        Command::Mark => {
-            let epoch = arguments.epoch()?;
-            let nonce = arguments.bytes()?;
-            arguments.end()?;
-            Ok(Task::Call {
-                call: Call::Mark { epoch, nonce },
-            })
-        }
-        Command::Has => {
-            let epoch = arguments.epoch()?;
-            let nonce = arguments.bytes()?;
-            arguments.end()?;
-            Ok(Task::Call {
-                call: Call::Has { epoch, nonce },
-            })
-        }
-        Command::Drop => {
-            let epoch = arguments.epoch()?;
-            arguments.end()?;
-            Ok(Task::Call {
-                call: Call::Drop { epoch },
-            })
-        }
-        Command::Size => {
-            arguments.end()?;
-            Ok(Task::Call { call: Call::Size })
-        }
-        Command::Clear => {
-            arguments.end()?;
-            Ok(Task::Call { call: Call::Clear })
-        }
-        Command::Image => {
-            arguments.end()?;
-            Ok(Task::Call { call: Call::Image })
-        }
+        Command::Book => Task::Book {
+            shelf: arguments.shelf()?,
+            length: arguments.number(LONGEST)?,
+        },
+        Command::Mark => Task::Call {
+            call: Call::Mark {
+                epoch: arguments.epoch()?,
+                nonce: arguments.bytes()?,
+            },
+        },
+        Command::Has => Task::Call {
+            call: Call::Has {
+                epoch: arguments.epoch()?,
+                nonce: arguments.bytes()?,
+            },
+        },
+        Command::Drop => Task::Call {
+            call: Call::Drop {
+                epoch: arguments.epoch()?,
+            },
+        },
+        Command::Size => Task::Call { call: Call::Size },
+        Command::Clear => Task::Call { call: Call::Clear },
+        Command::Image => Task::Call { call: Call::Image },
+        // which reads the words to the end of the line itself
         Command::Protocol(word) => {
             let action = protocol::read(word, arguments)?;
-            Ok(Task::Protocol { action })
+            return Ok(Task::Protocol { action });
         }
-    }
+    };
+    arguments.end()?;
+    Ok(task)
 }
