@@ -1,51 +1,37 @@
 -- The writers: what parts that are put one behind the other leave in an outlet.
-use Rattle.std.proofs.Common.{◌≡◌, ℕ, ◌+◌, ◌*◌, ◌/◌, ◌%◌, ◌<◌, ◌≤◌, Bool, true, false, not, eqb, ltb, ◌⊎◌, List, [], ◌∷◌, ◌++◌, length, take, drop, Ok, Err, Result, sym, refl, ap, ◌∙◌, ⊎_elim, append_assoc, append-nil, mod-eq_of_lt, arith, length-append, take_at}
-use Rattle.std.proofs.lemmas.Slice.{drop-append-drop}
-use Rattle.std.proofs.lemmas.List.{drop_all}
+use Rattle.std.proofs.Common.{◌≡◌, ℕ, ◌+◌, ◌*◌, ◌/◌, ◌%◌, ◌<◌, ◌≤◌, Bool, true, false, not, eqb, ltb, ◌⊎◌, List, [], ◌∷◌, ◌++◌, length, drop, Ok, Err, Result, sym, refl, ap, ◌∙◌, ⊎_elim, append-nil, mod-eq_of_lt, arith, length-append}
+use Rattle.std.proofs.lemmas.List.{drop_all, take-append-drop}
 use Rattle.std.proofs.lemmas.Nat.{div_below}
-use Rattle.numbers.specs.Bytes.{two_bytes}
+use Rattle.numbers.specs.declared.writer.Writer.{Writer}
+use Rattle.numbers.specs.Writing.{put_so_far, Put}
+use Rattle.numbers.proofs.Writing.{whole}
 use Rattle.std.proofs.lemmas.Bool.{lt-ltb, le-ltb}
 use Rattle.faults.specs.declared.WireFault.{WireFault}
 use Rattle.faults.specs.declared.WireFault.TheVariants.{WrongLength, WrongCount, ShortOutlet}
 use Rattle.group.specs.Model.{Model}
-use Rattle.messages.specs.Answers.{over, Put}
+use Rattle.messages.specs.Answers.{over}
 use Rattle.messages.specs.Messages.{Batch, Answers, no_count, head_bytes, place, request_length, reply_length, request_bytes, reply_bytes, writes_request, writes_reply, writes_token, token_input_of, token_input_bytes, token_bytes}
 use Rattle.messages.proofs.Ruled.{passed, stops, equal_passes, unequal_stops}
-
--- nothing written yet
-pub over_none : (old : List ℕ) → old ≡ over [] old
-unfolding over
-over_none old = refl
 
 -- all that fits was written
 pub over_all : (bytes old : List ℕ) → length old ≤ length bytes → over bytes old ≡ bytes
 unfolding over
 over_all bytes old h = ap (λ rest. bytes ++ rest) (drop_all (length bytes) old h) ∙ append-nil bytes
 
--- the next part stands behind those before it
-pub put_next : (p old before after : List ℕ) (at end : ℕ) (part : List ℕ) → before ≡ over p old → at ≡ length p → Put before after at end part →
-    (after ≡ over (p ++ part) old) × (end ≡ length (p ++ part))
+-- what a writer that began with nothing leaves in the outlet that it was lent
+pub written_over : {a b : Writer} {p : List ℕ} (old : List ℕ) → a.bytes.now ≡ old → put_so_far a ≡ [] → a.len ≡ 0 → Put a b p → b.bytes.now ≡ over p old
 unfolding over
-put_next p old before after at end part b a w =
-    let k = length p + length part in
-    let front : take at before ≡ p = ap (take at) b ∙ take_at p (drop (length p) old) at (sym a) in
-    let rest : drop (at + length part) before ≡ drop k old =
-    ap (λ (n : ℕ). drop (n + length part) before) a ∙ ap (drop k) b ∙ drop-append-drop (length p) old p k (omega arith) refl in
-    let whole = length-append p part in (
-      w.bytes ∙ ap (λ xs. xs ++ (part ++ drop (at + length part) before)) front ∙ ap (λ xs. p ++ (part ++ xs)) rest ∙ sym (append_assoc p part (drop k old)) ∙
-          ap (λ (n : ℕ). (p ++ part) ++ drop n old) (sym whole),
-      w.ends ∙ ap (λ (n : ℕ). n + length part) a ∙ sym whole,
-    )
+written_over {a} {b} {p} old lent none start one =
+    let end : b.len ≡ length p = let e = one.len in omega arith in
+    sym (take-append-drop b.len b.bytes.now)
+    ∙ ap (λ xs. xs ++ drop b.len b.bytes.now) (whole none one)
+    ∙ ap (λ xs. p ++ xs) one.rest
+    ∙ ap (λ (n : ℕ). p ++ drop n a.bytes.now) end
+    ∙ ap (λ xs. p ++ drop (length p) xs) lent
 
 -- the first of two bytes needs no remainder
 pub high_byte : (n : ℕ) → n < 65536 → n / 256 % 256 ≡ n / 256
 high_byte n h = mod-eq_of_lt (div_below n 256 256 (omega arith) (omega arith))
-
-pub head_is : (kind epoch n : ℕ) → kind < 65536 → epoch < 65536 → kind / 256 ∷ kind % 256 ∷ epoch / 256 ∷ epoch % 256 ∷ n ∷ [] ≡ head_bytes kind epoch n
-unfolding head_bytes
-head_is kind epoch n k e =
-    ap (λ (x : ℕ). x ∷ kind % 256 ∷ epoch / 256 ∷ epoch % 256 ∷ n ∷ []) (sym (high_byte kind k)) ∙
-    ap (λ (x : ℕ). kind / 256 % 256 ∷ kind % 256 ∷ x ∷ epoch % 256 ∷ n ∷ []) (sym (high_byte epoch e))
 
 pub head_length : (kind epoch n : ℕ) → length (head_bytes kind epoch n) ≡ 5
 unfolding head_bytes
@@ -94,15 +80,6 @@ module _ {E S K : Type 0} (m : Model E S K) (b : Batch) where
   unfolding request_bytes request_length place
   request_bytes_length l =
       length-append (head_bytes m.kind b.epoch b.count) b.items ∙ omega (arith, head_length m.kind b.epoch b.count, l)
-
-  -- the head and then the codes
-  pub request_laid : (old first last head : List ℕ) (at end : ℕ) → head ≡ head_bytes m.kind b.epoch b.count →
-      Put old first 0 at head → Put first last at end b.items → (last ≡ over (request_bytes m b) old) × (end ≡ length (request_bytes m b))
-  unfolding request_bytes
-  request_laid old first last head at end h p q =
-      let one = put_next [] old old first 0 at head (over_none old) refl p in
-      let two = put_next head old first last at end b.items one.0 one.1 q in
-      (two.0 ∙ ap (λ xs. over (xs ++ b.items) old) h, two.1 ∙ ap (λ xs. length (xs ++ b.items)) h)
 
 module _ {E S K : Type 0} (m : Model E S K) (a : Answers) where
   module _ (room : ℕ) where
@@ -179,44 +156,18 @@ module _ {E S K : Type 0} (m : Model E S K) (a : Answers) where
       length-append head (a.items ++ (a.challenge ++ a.response)) ∙
       omega (arith, head_length m.kind a.epoch a.count, length-append a.items (a.challenge ++ a.response), length-append a.challenge a.response)
 
-  -- the head, the codes, c and s
-  pub reply_laid : (old first second third last head : List ℕ) (at1 at2 at3 end : ℕ) → head ≡ head_bytes m.kind a.epoch a.count →
-      Put old first 0 at1 head → Put first second at1 at2 a.items → Put second third at2 at3 a.challenge → Put third last at3 end a.response →
-      (last ≡ over (reply_bytes m a) old) × (end ≡ length (reply_bytes m a))
-  unfolding reply_bytes
-  reply_laid old first second third last head at1 at2 at3 end h p q r s =
-      let one = put_next [] old old first 0 at1 head (over_none old) refl p in
-      let two = put_next head old first second at1 at2 a.items one.0 one.1 q in
-      let three = put_next (head ++ a.items) old second third at2 at3 a.challenge two.0 two.1 r in
-      let four = put_next ((head ++ a.items) ++ a.challenge) old third last at3 end a.response three.0 three.1 s in
-      let whole : ((head ++ a.items) ++ a.challenge) ++ a.response ≡ head_bytes m.kind a.epoch a.count ++ (a.items ++ (a.challenge ++ a.response)) =
-      append_assoc (head ++ a.items) a.challenge a.response ∙ append_assoc head a.items (a.challenge ++ a.response) ∙
-      ap (λ xs. xs ++ (a.items ++ (a.challenge ++ a.response))) h in
-      (four.0 ∙ ap (λ xs. over xs old) whole, four.1 ∙ ap length whole)
-
 -- the input of a token
-pub input_laid : (kind epoch : ℕ) (nonce context key_id old first second third last : List ℕ) (at1 at2 at3 end : ℕ) →
-    kind < 65536 → epoch < 65536 → length nonce ≡ 32 → length context ≡ 32 → length key_id ≡ 32 → length old ≡ 100 →
-    Put old first 0 at1 (kind / 256 ∷ kind % 256 ∷ epoch / 256 ∷ epoch % 256 ∷ []) → Put first second 4 at2 nonce → Put second third 36 at3 context → Put third last 68 end key_id →
-    Ok last ≡ token_input_of kind epoch nonce context key_id
-unfolding token_input_of token_input_bytes
-input_laid kind epoch nonce context key_id old first second third last at1 at2 at3 end hk he n c k o p q r s =
-    let front = kind / 256 ∷ kind % 256 ∷ epoch / 256 ∷ epoch % 256 ∷ [] in
-    let ln = length-append front nonce in
-    let lc = length-append (front ++ nonce) context in
-    let lk = length-append ((front ++ nonce) ++ context) key_id in
-    let one = put_next [] old old first 0 at1 front (over_none old) refl p in
-    let two = put_next front old first second 4 at2 nonce one.0 refl q in
-    let three = put_next (front ++ nonce) old second third 36 at3 context two.0 (omega arith) r in
-    let four = put_next ((front ++ nonce) ++ context) old third last 68 end key_id three.0 (omega arith) s in
-    let bytes = ((front ++ nonce) ++ context) ++ key_id in
-    let whole : bytes ≡ two_bytes kind ++ (two_bytes epoch ++ (nonce ++ (context ++ key_id))) =
-    append_assoc (front ++ nonce) context key_id ∙ append_assoc front nonce (context ++ key_id) ∙
-    ap (λ (x : ℕ). (x ∷ kind % 256 ∷ epoch / 256 ∷ epoch % 256 ∷ []) ++ (nonce ++ (context ++ key_id))) (sym (high_byte kind hk)) ∙
-    ap (λ (x : ℕ). (kind / 256 % 256 ∷ kind % 256 ∷ x ∷ epoch % 256 ∷ []) ++ (nonce ++ (context ++ key_id))) (sym (high_byte epoch he)) in
-    ap (λ xs. Ok xs) (four.0 ∙ over_all bytes old (omega arith) ∙ whole) ∙
+pub input_length : (kind epoch : ℕ) (nonce context key_id : List ℕ) → length nonce ≡ 32 → length context ≡ 32 → length key_id ≡ 32 →
+    length (token_input_bytes kind epoch nonce context key_id) ≡ 100
+unfolding token_input_bytes
+input_length kind epoch nonce context key_id n c k = omega (arith, length-append nonce (context ++ key_id), length-append context key_id)
+
+pub input_whole : (kind epoch : ℕ) (nonce context key_id : List ℕ) → length nonce ≡ 32 → length context ≡ 32 →
+    Ok (token_input_bytes kind epoch nonce context key_id) ≡ token_input_of kind epoch nonce context key_id
+unfolding token_input_of
+input_whole kind epoch nonce context key_id n c =
     sym (passed ((not (eqb (length nonce) 32), WrongLength) ∷ (not (eqb (length context) 32), WrongLength) ∷ [])
-    (Ok (two_bytes kind ++ (two_bytes epoch ++ (nonce ++ (context ++ key_id)))))
+    (Ok (token_input_bytes kind epoch nonce context key_id))
     (equal_passes (length nonce) 32 n, (equal_passes (length context) 32 c, tt)))
 
 pub input_refused : (kind epoch : ℕ) (nonce context key_id : List ℕ) → (length nonce ≡ 32 → ⊥) ⊎ ((length nonce ≡ 32) × (length context ≡ 32 → ⊥)) →
@@ -238,11 +189,3 @@ token_narrow room h = stops [] (ltb room 132, ShortOutlet) [] (Ok 132) tt (lt-lt
 pub token_fits : (room : ℕ) → 132 ≤ room → writes_token room ≡ Ok 132
 unfolding writes_token
 token_fits room h = passed ((ltb room 132, ShortOutlet) ∷ []) (Ok 132) (le-ltb room 132 h, tt)
-
-pub token_laid : (input authenticator old first last : List ℕ) (at end : ℕ) → Put old first 0 at input → Put first last at end authenticator →
-    (last ≡ over (token_bytes input authenticator) old) × (end ≡ length input + length authenticator)
-unfolding token_bytes
-token_laid input authenticator old first last at end p q =
-    let one = put_next [] old old first 0 at input (over_none old) refl p in
-    let two = put_next input old first last at end authenticator one.0 one.1 q in
-    (two.0, two.1 ∙ length-append input authenticator)

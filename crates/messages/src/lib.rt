@@ -10,13 +10,15 @@
 #![tactic(auto)]
 
 ghost use Rattle.std.specs.Prelude.{◌≡◌, ℕ, ◌+◌, ◌*◌, ◌≤◌, List, length, take, IfOk};
-ghost use Rattle.messages.specs.Answers.{Put, laid};
-ghost use Rattle.messages.specs.Messages.{header_of, front_of, read_request as request_read, read_reply as reply_read, split_reply as reply_split, request_length, reply_length, item_at, head_bytes, request_bytes, reply_bytes, token_input_of, token_bytes, read_token as token_read, writes_request, writes_reply, writes_token};
+ghost use Rattle.numbers.specs.Writing.{room, Put};
+ghost use Rattle.messages.specs.Answers.{laid};
+ghost use Rattle.messages.specs.Messages.{header_of, front_of, read_request as request_read, read_reply as reply_read, split_reply as reply_split, request_length, reply_length, item_at, head_bytes, request_bytes, reply_bytes, token_input_of, token_input_bytes, token_bytes, read_token as token_read, writes_request, writes_reply, writes_token};
 ghost use Rattle.messages.specs.Laws.{RoundTrip, OneEncoding, Placed, TokenTrip};
 ghost use Rattle.messages.specs.Views.{header_seen, request_seen, reply_seen, split_seen, item_seen, token_seen, batch, answers};
 
 use faults::WireFault;
 use group::Group;
+use numbers::writer::Writer;
 
 // What stands at the front of a request and of a reply.
 #[derive(Clone, Copy)]
@@ -60,7 +62,7 @@ pub struct Token<'a> {
 fn number(high: u8, low: u8) -> u16
     ensures { result ≡ high * 256 + low }
 {
-    high as u16 * 256 + low as u16
+    u16::from_be_bytes([high, low])
 }
 
 // Takes type, epoch and n off the front of a message, and hands on the rest.
@@ -161,27 +163,14 @@ pub fn item<G: Group>(items: &[u8], i: usize) -> Option<&[u8]>
     Some(&items[at..at + width])
 }
 
-// Copies the part to the place `at`, and answers where it ends.
-fn put(out: &mut [u8], at: usize, part: &[u8]) -> usize
-    requires { at + length part.now ≤ length out.old }
-    ensures { Put out.old out.new at result part.now }
+// Puts type, epoch and n in their bytes.
+fn put_head<G: Group>(message: &mut Writer<'_>, epoch: u16, count: u8)
+    requires { message.old.len + 5 ≤ room message.old }
+    ensures { Put message.old message.new (head_bytes G.model.kind epoch count) }
 {
-    let end = at + part.len();
-    out[at..end].copy_from_slice(part);
-    end
-}
-
-// Type, epoch and n in their bytes.
-fn head(kind: u16, epoch: u16, count: u8) -> [u8; 5]
-    ensures { result ≡ head_bytes kind epoch count }
-{
-    [
-        (kind / 256) as u8,
-        (kind % 256) as u8,
-        (epoch / 256) as u8,
-        (epoch % 256) as u8,
-        count,
-    ]
+    message.put(&G::kind().to_be_bytes());
+    message.put(&epoch.to_be_bytes());
+    message.put(&[count]);
 }
 
 // Writes a request to the front of the outlet, and answers how many bytes it has.
@@ -195,12 +184,14 @@ pub fn write_request<G: Group>(request: Request<'_>, out: &mut [u8]) -> Result<u
     if request.items.len() != request.count as usize * G::element_width() {
         return Err(WireFault::WrongLength);
     }
-    if out.len() < request_len::<G>(request.count) {
+    let len = request_len::<G>(request.count);
+    if out.len() < len {
         return Err(WireFault::ShortOutlet);
     }
-    let at = put(out, 0, &head(G::kind(), request.epoch, request.count));
-    let end = put(out, at, request.items);
-    Ok(end)
+    let mut message = Writer::new(out);
+    put_head::<G>(&mut message, request.epoch, request.count);
+    message.put(request.items);
+    Ok(len)
 }
 
 // Writes a reply to the front of the outlet, and answers how many bytes it has.
@@ -218,14 +209,37 @@ pub fn write_reply<G: Group>(reply: Reply<'_>, out: &mut [u8]) -> Result<usize, 
     if reply.challenge.len() != width || reply.response.len() != width {
         return Err(WireFault::WrongLength);
     }
-    if out.len() < reply_len::<G>(reply.count) {
+    let len = reply_len::<G>(reply.count);
+    if out.len() < len {
         return Err(WireFault::ShortOutlet);
     }
-    let at = put(out, 0, &head(G::kind(), reply.epoch, reply.count));
-    let at = put(out, at, reply.items);
-    let at = put(out, at, reply.challenge);
-    let end = put(out, at, reply.response);
-    Ok(end)
+    let mut message = Writer::new(out);
+    put_head::<G>(&mut message, reply.epoch, reply.count);
+    message.put(reply.items);
+    message.put(reply.challenge);
+    message.put(reply.response);
+    Ok(len)
+}
+
+// Writes the parts of a token's input.
+fn lay_input(
+    out: &mut [u8; 100],
+    kind: u16,
+    epoch: u16,
+    nonce: &[u8],
+    context: &[u8],
+    key_id: &[u8; 32],
+)
+    requires nonce { length nonce.now ≡ 32 }
+    requires context { length context.now ≡ 32 }
+    ensures { out.new ≡ token_input_bytes kind epoch nonce.now context.now key_id.now }
+{
+    let mut input = Writer::new(out);
+    input.put(&kind.to_be_bytes());
+    input.put(&epoch.to_be_bytes());
+    input.put(nonce);
+    input.put(context);
+    input.put(key_id);
 }
 
 // The input of a token, which a shop blinds and an authenticator is of.
@@ -241,17 +255,8 @@ pub fn token_input(
     if nonce.len() != 32 || context.len() != 32 {
         return Err(WireFault::WrongLength);
     }
-    let front = [
-        (kind / 256) as u8,
-        (kind % 256) as u8,
-        (epoch / 256) as u8,
-        (epoch % 256) as u8,
-    ];
     let mut input = [0; 100];
-    put(&mut input, 0, &front);
-    put(&mut input, 4, nonce);
-    put(&mut input, 36, context);
-    put(&mut input, 68, key_id);
+    lay_input(&mut input, kind, epoch, nonce, context, key_id);
     Ok(input)
 }
 
@@ -288,9 +293,10 @@ pub fn write_token(
     if out.len() < 132 {
         return Err(WireFault::ShortOutlet);
     }
-    let at = put(out, 0, input);
-    let end = put(out, at, authenticator);
-    Ok(end)
+    let mut token = Writer::new(out);
+    token.put(input);
+    token.put(authenticator);
+    Ok(132)
 }
 
 // A batch that one end writes, the other end reads as that batch.

@@ -1,8 +1,9 @@
-use Rattle.std.proofs.Common.{ℕ, ◌*◌, length, Ok, sym, refl, ap, ◌∙◌, arith}
-use Rattle.messages.specs.Messages.{head_bytes, place, reply_length}
+use Rattle.std.proofs.Common.{ℕ, ◌*◌, length, Ok, sym, refl, ap, ◌∙◌, arith, rules}
+use Rattle.numbers.proofs.Writing.{and_then}
+use Rattle.messages.specs.Messages.{place, reply_length, reply_bytes}
 use Rattle.messages.specs.Views.{answers}
 use Rattle.messages.proofs.Reading.{counted, uncounted}
-use Rattle.messages.proofs.Writing.{head_length, reply_uncounted, reply_mislong, challenge_mislong, response_mislong, reply_narrow, reply_fits, reply_bytes_length, reply_laid}
+use Rattle.messages.proofs.Writing.{head_length, reply_uncounted, reply_mislong, challenge_mislong, response_mislong, reply_narrow, reply_fits, written_over}
 use Rattle.messages.proofs.write_reply.Goals as goal
 use Rattle.messages.proofs.write_reply.Goals.{then-reply-width-via-then-reply-width, then-reply-width-via-else-reply-width+then-reply-width-2}
 
@@ -42,8 +43,8 @@ returns-then-reply-width g c =
       out = refl;
     }
 
-pub returns-then-out-reply_len : goal.returns-then-out-reply_len
-returns-then-out-reply_len g c =
+pub returns-then-out-len : goal.returns-then-out-len
+returns-then-out-len g c =
     let m = g.G.Group.model in
     let q = answers c.args.reply in
     let wide = c.scalar_width-width.ensures in
@@ -51,58 +52,68 @@ returns-then-out-reply_len g c =
       written =
           sym (reply_narrow m q (length c.args.out.now) (counted q.count (omega arith) (omega arith))
           (c.if-reply-element_width.false ∙ ap (λ (w : ℕ). q.count * w) c.element_width.ensures)
-          (c.if-reply-width.false ∙ wide) (c.if-reply-width-2.false ∙ wide) (omega arith));
+          (c.if-reply-width.false ∙ wide) (c.if-reply-width-2.false ∙ wide) (let len = c.reply_len-len.ensures in omega arith));
       out = refl;
     }
 
-pub put-at-requires : goal.put-at-requires
+pub put_head-requires : goal.put_head-requires
 unfolding reply_length place
-put-at-requires g c = omega (arith, ap length c.head.ensures, head_length c.kind.result c.args.reply.epoch c.args.reply.count)
+put_head-requires g c = omega (arith, ap length c.new-message.ensures.bytes, c.reply_len-len.ensures)
 
-pub put-at-requires-2 : goal.put-at-requires-2
+pub put-requires : goal.put-requires
 unfolding reply_length place
-put-at-requires-2 g c =
+put-requires g c =
+    let head = c.put_head.ensures in
     omega (
       arith,
-      ap length c.head.ensures,
-      head_length c.kind.result c.args.reply.epoch c.args.reply.count,
+      ap length c.new-message.ensures.bytes,
+      head_length g.G.Group.model.kind c.args.reply.epoch c.args.reply.count,
+      c.reply_len-len.ensures,
       c.if-reply-element_width.false ∙ ap (λ (w : ℕ). c.args.reply.count * w) c.element_width.ensures,
+      c.scalar_width-width.ensures,
     )
 
-pub put-at-requires-3 : goal.put-at-requires-3
+pub put-requires-2 : goal.put-requires-2
 unfolding reply_length place
-put-at-requires-3 g c =
+put-requires-2 g c =
+    let head = c.put_head.ensures in
     omega (
       arith,
-      ap length c.head.ensures,
-      head_length c.kind.result c.args.reply.epoch c.args.reply.count,
+      ap length c.new-message.ensures.bytes,
+      head_length g.G.Group.model.kind c.args.reply.epoch c.args.reply.count,
+      c.reply_len-len.ensures,
       c.if-reply-element_width.false ∙ ap (λ (w : ℕ). c.args.reply.count * w) c.element_width.ensures,
+      c.scalar_width-width.ensures,
     )
 
-pub put-end-requires : goal.put-end-requires
+pub put-requires-3 : goal.put-requires-3
 unfolding reply_length place
-put-end-requires g c =
+put-requires-3 g c =
+    let head = c.put_head.ensures in
     omega (
       arith,
-      ap length c.head.ensures,
-      head_length c.kind.result c.args.reply.epoch c.args.reply.count,
+      ap length c.new-message.ensures.bytes,
+      head_length g.G.Group.model.kind c.args.reply.epoch c.args.reply.count,
+      c.reply_len-len.ensures,
       c.if-reply-element_width.false ∙ ap (λ (w : ℕ). c.args.reply.count * w) c.element_width.ensures,
+      c.scalar_width-width.ensures,
     )
 
-pub returns : goal.returns
-returns g c =
+pub returns-clause-written : goal.returns-clause-written
+returns-clause-written g c =
     let m = g.G.Group.model in
     let q = answers c.args.reply in
     let wide = c.scalar_width-width.ensures in
-    let long = c.if-reply-element_width.false ∙ ap (λ (w : ℕ). q.count * w) c.element_width.ensures in
-    let first = c.if-reply-width.false ∙ wide in
-    let second = c.if-reply-width-2.false ∙ wide in
-    let whole = reply_laid m q c.args.out.now c.put-at.new.out c.put-at-2.new.out c.put-at-3.new.out c.put-end.new.out c.head.result
-    c.put-at.result c.put-at-2.result c.put-at-3.result c.put-end.result
-    (c.head.ensures ∙ ap (λ k. head_bytes k q.epoch q.count) c.kind.ensures) c.put-at.ensures c.put-at-2.ensures c.put-at-3.ensures c.put-end.ensures in
-    record {
-      written =
-          ap (λ n. Ok n) (whole.1 ∙ reply_bytes_length m q long first second) ∙
-          sym (reply_fits m q (length c.args.out.now) (counted q.count (omega arith) (omega arith)) long first second (omega arith));
-      out = whole.0;
-    }
+    let len = c.reply_len-len.ensures in
+    ap (λ n. Ok n) len ∙
+    sym (reply_fits m q (length c.args.out.now) (counted q.count (omega arith) (omega arith))
+    (c.if-reply-element_width.false ∙ ap (λ (w : ℕ). q.count * w) c.element_width.ensures)
+    (c.if-reply-width.false ∙ wide) (c.if-reply-width-2.false ∙ wide) (omega arith))
+
+pub returns-clause-out : goal.returns-clause-out
+unfolding reply_bytes
+returns-clause-out g c =
+    let all = and_then c.put_head.ensures (and_then c.put.ensures (and_then c.put-2.ensures c.put-3.ensures)) in
+    let lent = all.lent ∙ c.new-message.ensures.lent in
+    let last = written_over c.args.out.now c.new-message.ensures.bytes c.new-message.ensures.parts c.new-message.ensures.len all in
+    search rules
