@@ -36,8 +36,7 @@ pub fn element<G: Group>(code: &[u8]) -> Result<G, GroupFault>
 pub fn nonzero<G: Group>(code: &[u8]) -> Result<G::NonZero, GroupFault>
     ensures { result ≡ key_of G.model code.now }
 {
-    let s = G::decode_scalar(code)?;
-    G::nonzero(s)
+    G::nonzero(G::decode_scalar(code)?)
 }
 
 // The input of the token for an epoch, a nonce and a context, under a public key.
@@ -53,8 +52,8 @@ pub fn input<G: Group>(
         return Err(BatchFault::Wire(WireFault::WrongLength));
     }
     let pk = element::<G>(pk)?;
-    let input = token_input(G::kind(), epoch, nonce, context, &key_id(pk))?;
-    Ok(input)
+    let id = key_id(pk);
+    Ok(token_input(G::kind(), epoch, nonce, context, &id)?)
 }
 
 // The authenticator of an input by the key itself.
@@ -66,17 +65,20 @@ pub fn direct<G: Group>(
     ensures answer { result ≡ direct_answer G.model (length scratch.old) key.now input.now }
     ensures clean { scratch.new ≡ replicate (length scratch.old) 0 }
 {
-    let work = Scratch { bytes: scratch };
-    if work.bytes.len() < ENOUGH {
+    let guard = Scratch { bytes: scratch };
+    let Some(work) = guard.bytes.first_chunk_mut::<ENOUGH>() else {
         return Err(BatchFault::Wire(WireFault::ShortScratch));
+    };
+    if key.len() != G::scalar_width() {
+        return Err(BatchFault::Wire(WireFault::WrongLength));
     }
-    if key.len() != G::scalar_width() || input.len() != 100 {
+    if input.len() != 100 {
         return Err(BatchFault::Wire(WireFault::WrongLength));
     }
     let key = nonzero::<G>(key)?;
-    let mapped = hash_to_group::<G>(work.bytes, input);
+    let mapped = hash_to_group::<G>(work, input);
     if is_null(mapped) {
         return Err(BatchFault::Group(GroupFault::NullInput));
     }
-    Ok(authenticator(work.bytes, input, evaluate(key, mapped)))
+    Ok(authenticator(work, input, evaluate(key, mapped)))
 }

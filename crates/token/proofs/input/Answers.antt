@@ -11,9 +11,9 @@ pub returns-in_err-pk : goal.returns-in_err-pk
 unfolding input_answer
 returns-in_err-pk g c = search rules
 
-pub returns-in_err-input : goal.returns-in_err-input
+pub returns-in_err-token_input : goal.returns-in_err-token_input
 unfolding input_answer token_input_of token_input
-returns-in_err-input g c = search rules
+returns-in_err-token_input g c = search rules
 
 pub returns : goal.returns
 unfolding input_answer token_input_of token_input
