@@ -16,10 +16,7 @@ use voprf::blinding::evaluate;
 pub fn input<G: Group>(epoch: u16, id: &[u8; 32], seed: &[u8; 64]) -> [u8; 100]
     ensures { result ≡ input_under G.model epoch id.now seed.now }
 {
-    match token_input(G::kind(), epoch, &seed[..32], &seed[32..], id) {
-        Ok(input) => input,
-        Err(_) => unreachable(),
-    }
+    token_input(G::kind(), epoch, &seed[..32], &seed[32..], id).unwrap()
 }
 
 // What is sent for an item, where its input does not map to the null. The input is hashed to the group once.

@@ -7,7 +7,7 @@ ghost use Rattle.client.specs.Finishing.{finished};
 ghost use Rattle.counter.specs.Orders.{blind_in, finish_in, blind_turn, finish_turn, abandon_turn, waiting, Begins, Takes};
 
 use circ523::Point;
-use client::{Pending, Unfinished};
+use client::{Order, Pending, Unfinished};
 use commands::Kind;
 use faults::{BatchFault, Fault, Refusal};
 use group::Group;
@@ -40,16 +40,14 @@ fn put(pending: &mut Option<Pending>, batch: Pending)
 fn begin<G: Group>(
     scratch: &mut [u8],
     epoch: u16,
-    pk: &[u8],
-    seeds: &[u8],
-    blinds: &[u8],
+    order: Order<'_>,
     outlet: &mut [u8],
 ) -> Result<(Pending, usize), BatchFault>
-    ensures answer { Begins (blind_answer G.model (length scratch.old) epoch pk.now seeds.now blinds.now (length outlet.old)) epoch (length seeds.now / 64) result }
-    ensures outlet { outlet.new ≡ outlet_after (blind_answer G.model (length scratch.old) epoch pk.now seeds.now blinds.now (length outlet.old)) outlet.old }
+    ensures answer { Begins (blind_answer G.model (length scratch.old) epoch order.entry.pk.now order.entry.seeds.now order.entry.blinds.now (length outlet.old)) epoch (length order.entry.seeds.now / 64) result }
+    ensures outlet { outlet.new ≡ outlet_after (blind_answer G.model (length scratch.old) epoch order.entry.pk.now order.entry.seeds.now order.entry.blinds.now (length outlet.old)) outlet.old }
 {
-    match client::blind::<G>(scratch, epoch, pk, seeds, blinds, outlet) {
-        Ok(batch) => Ok((batch, request_len::<G>((seeds.len() / 64) as u8))),
+    match client::blind::<G>(scratch, epoch, order, outlet) {
+        Ok(batch) => Ok((batch, request_len::<G>((order.seeds.len() / 64) as u8))),
         Err(fault) => Err(fault),
     }
 }
@@ -59,17 +57,15 @@ fn begin_in(
     kind: Kind,
     scratch: &mut [u8],
     epoch: u16,
-    pk: &[u8],
-    seeds: &[u8],
-    blinds: &[u8],
+    order: Order<'_>,
     outlet: &mut [u8],
 ) -> Result<(Pending, usize), BatchFault>
-    ensures answer { Begins (blind_in kind (length scratch.old) epoch pk.now seeds.now blinds.now (length outlet.old)) epoch (length seeds.now / 64) result }
-    ensures outlet { outlet.new ≡ outlet_after (blind_in kind (length scratch.old) epoch pk.now seeds.now blinds.now (length outlet.old)) outlet.old }
+    ensures answer { Begins (blind_in kind (length scratch.old) epoch order.entry.pk.now order.entry.seeds.now order.entry.blinds.now (length outlet.old)) epoch (length order.entry.seeds.now / 64) result }
+    ensures outlet { outlet.new ≡ outlet_after (blind_in kind (length scratch.old) epoch order.entry.pk.now order.entry.seeds.now order.entry.blinds.now (length outlet.old)) outlet.old }
 {
     match kind {
-        Kind::Res2039 => begin::<Residue>(scratch, epoch, pk, seeds, blinds, outlet),
-        Kind::Circ523 => begin::<Point>(scratch, epoch, pk, seeds, blinds, outlet),
+        Kind::Res2039 => begin::<Residue>(scratch, epoch, order, outlet),
+        Kind::Circ523 => begin::<Point>(scratch, epoch, order, outlet),
     }
 }
 
@@ -95,9 +91,7 @@ pub fn blind(
         kind,
         scratch.as_mut_slice(),
         epoch,
-        pk,
-        seeds,
-        blinds,
+        Order { pk, seeds, blinds },
         outlet.as_mut_slice(),
     ) {
         Ok(begun) => {
@@ -115,22 +109,16 @@ fn finish_in(
     kind: Kind,
     scratch: &mut [u8],
     pending: Pending,
-    pk: &[u8],
-    seeds: &[u8],
-    blinds: &[u8],
+    order: Order<'_>,
     reply: &[u8],
     outlet: &mut [u8],
 ) -> Result<u8, Unfinished>
-    ensures answer { result ≡ finished pending (finish_in kind (length scratch.old) pending.epoch pending.count pk.now seeds.now blinds.now reply.now (length outlet.old)) }
-    ensures outlet { outlet.new ≡ outlet_after (finish_in kind (length scratch.old) pending.epoch pending.count pk.now seeds.now blinds.now reply.now (length outlet.old)) outlet.old }
+    ensures answer { result ≡ finished pending (finish_in kind (length scratch.old) pending.epoch pending.count order.entry.pk.now order.entry.seeds.now order.entry.blinds.now reply.now (length outlet.old)) }
+    ensures outlet { outlet.new ≡ outlet_after (finish_in kind (length scratch.old) pending.epoch pending.count order.entry.pk.now order.entry.seeds.now order.entry.blinds.now reply.now (length outlet.old)) outlet.old }
 {
     match kind {
-        Kind::Res2039 => {
-            client::finish::<Residue>(scratch, pending, pk, seeds, blinds, reply, outlet)
-        }
-        Kind::Circ523 => {
-            client::finish::<Point>(scratch, pending, pk, seeds, blinds, reply, outlet)
-        }
+        Kind::Res2039 => client::finish::<Residue>(scratch, pending, order, reply, outlet),
+        Kind::Circ523 => client::finish::<Point>(scratch, pending, order, reply, outlet),
     }
 }
 
@@ -156,9 +144,7 @@ pub fn finish(
         kind,
         scratch.as_mut_slice(),
         batch,
-        pk,
-        seeds,
-        blinds,
+        Order { pk, seeds, blinds },
         reply,
         outlet.as_mut_slice(),
     ) {

@@ -1,20 +1,11 @@
 // A shop at work: one batch blinded and finished, round after round.
 ghost use Rattle.std.specs.Prelude.{◌≡◌, ◌≤◌, length};
 
-use client::{Pending, Unfinished, blind, finish};
+use client::{Order, Pending, Unfinished, blind, finish};
 use group::Group;
 
 // The epoch of the batch.
 const EPOCH: u16 = 1;
-
-// What a shop has: the public key, the seeds and blinds of its items, and the station's reply.
-#[derive(Clone, Copy)]
-pub struct Order<'a> {
-    pub pk: &'a [u8],
-    pub seeds: &'a [u8],
-    pub blinds: &'a [u8],
-    pub reply: &'a [u8],
-}
 
 // Gives up a batch that its reply did not finish.
 fn give_up(unfinished: Unfinished) {
@@ -27,17 +18,10 @@ fn end<G: Group>(
     scratch: &mut [u8],
     pending: Pending,
     order: Order<'_>,
+    reply: &[u8],
     tokens: &mut [u8],
 ) -> bool {
-    match finish::<G>(
-        scratch,
-        pending,
-        order.pk,
-        order.seeds,
-        order.blinds,
-        order.reply,
-        tokens,
-    ) {
+    match finish::<G>(scratch, pending, order, reply, tokens) {
         Ok(_) => true,
         Err(unfinished) => {
             give_up(unfinished);
@@ -50,23 +34,30 @@ fn end<G: Group>(
 fn order_once<G: Group>(
     scratch: &mut [u8],
     order: Order<'_>,
+    reply: &[u8],
     request: &mut [u8],
     tokens: &mut [u8],
 ) -> bool {
-    match blind::<G>(scratch, EPOCH, order.pk, order.seeds, order.blinds, request) {
-        Ok(pending) => end::<G>(scratch, pending, order, tokens),
+    match blind::<G>(scratch, EPOCH, order, request) {
+        Ok(pending) => end::<G>(scratch, pending, order, reply, tokens),
         Err(_) => false,
     }
 }
 
 // How many of so many rounds gave tokens.
-pub fn orders<G: Group>(order: Order<'_>, request: &mut [u8], tokens: &mut [u8], rounds: u32) -> u32
+pub fn orders<G: Group>(
+    order: Order<'_>,
+    reply: &[u8],
+    request: &mut [u8],
+    tokens: &mut [u8],
+    rounds: u32,
+) -> u32
     ensures { result ≤ rounds }
 {
     let mut scratch = [0; 1024];
     let mut done: u32 = 0;
     for _ in 0..rounds {
-        if order_once::<G>(&mut scratch, order, request, tokens) {
+        if order_once::<G>(&mut scratch, order, reply, request, tokens) {
             done = done.saturating_add(1);
         }
     }

@@ -12,7 +12,8 @@ ghost use Rattle.speed.specs.Products.{product, product_status, product_out};
 use book::{Book, Layout, Work};
 use chained::Chained;
 use circ523::Point;
-use clients::{Order, orders};
+use client::Order;
+use clients::orders;
 use digest::digest;
 use faults::{Fault, GroupFault, WireFault};
 use group::{Group, multiple};
@@ -331,13 +332,8 @@ pub extern "C" fn dilkortxi_res2039_batches<'a>(
 ) -> u32
     ensures { result ≤ rounds }
 {
-    let order = Order {
-        pk,
-        seeds,
-        blinds,
-        reply,
-    };
-    orders::<Residue>(order, request, tokens, rounds)
+    let order = Order { pk, seeds, blinds };
+    orders::<Residue>(order, reply, request, tokens, rounds)
 }
 
 // The same in circ523.
@@ -353,11 +349,6 @@ pub extern "C" fn dilkortxi_circ523_batches<'a>(
 ) -> u32
     ensures { result ≤ rounds }
 {
-    let order = Order {
-        pk,
-        seeds,
-        blinds,
-        reply,
-    };
-    orders::<Point>(order, request, tokens, rounds)
+    let order = Order { pk, seeds, blinds };
+    orders::<Point>(order, reply, request, tokens, rounds)
 }

@@ -3,9 +3,9 @@ use Rattle.messages.specs.Messages.{token_input_of}
 use Rattle.client.specs.Batches.{input_under}
 use Rattle.client.proofs.items.input.Goals as goal
 
-pub unreachable-requires : goal.unreachable-requires
+pub unwrap-requires : goal.unwrap-requires
 unfolding token_input_of
-unreachable-requires g c = search rules
+unwrap-requires g c = search rules
 
 pub returns : goal.returns
 unfolding token_input_of input_under
