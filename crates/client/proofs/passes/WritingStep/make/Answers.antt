@@ -1,4 +1,4 @@
-use Rattle.std.proofs.Common.{◌≡◌, ◌++◌, ◌-◌, List, ℕ, length, Ok, sym, refl, ap, ◌∙◌}
+use Rattle.std.proofs.Common.{List, ℕ, Ok, sym, refl, ap, ◌∙◌}
 use Rattle.std.proofs.lemmas.Result.{err_from_is_err_and}
 use Rattle.messages.specs.Messages.{token_bytes}
 use Rattle.token.specs.Tokens.{then}
