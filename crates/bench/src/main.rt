@@ -128,6 +128,8 @@ fn print_book(rt: &HostRuntime, capacity: Result<u16, WireFault>) -> io::Result<
 }
 
 // Makes the book that a line asks for, and carries out the lines below it.
+// Stays an arm for each kind: as a piece of `Work` the lines would know a book by its meaning alone, and a script
+// asks for its bytes; and a `Layout` cannot name the type of its book, since that has a lifetime.
 fn open(
     rt: &HostRuntime,
     state: &mut State,

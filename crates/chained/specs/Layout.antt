@@ -1,6 +1,6 @@
 -- How a chained book lies in memory: 64 heads, the free head and the size in two bytes each, then a
 -- record of 36 bytes for each place. What lies behind is none of the book's.
-use Rattle.std.specs.Prelude.{◌≡◌, ℕ, ◌+◌, ◌-◌, ◌*◌, ◌/◌, ◌%◌, ◌<◌, ◌≤◌, min, cond, List, [], ◌∷◌, ◌++◌, map, take, drop, Ok, Err, Result, nat_lt, slice_index}
+use Rattle.std.specs.Prelude.{◌≡◌, ℕ, ◌+◌, ◌*◌, List, ◌++◌, map, take, drop, Result}
 use Rattle.std.specs.List.{range_with_len, flat_map}
 use Rattle.faults.specs.declared.WireFault.{WireFault}
 use Rattle.book.specs.Rooms as rooms

@@ -16,6 +16,7 @@ pub fn put_nonce(m: &mut [u8], at: usize, nonce: &[u8; 32])
 
 // Whether a nonce stands at a byte. All 32 bytes are compared at once: a walk along a chain then has one
 // branch a record for the nonce, and the compiler lays the whole comparison into the walk.
+// Stays beside the tape's comparison of slices: in a tape this one is the slower of the two.
 pub fn nonce_at(m: &[u8], at: usize, nonce: &[u8; 32]) -> bool
     requires { at + 32 ≤ length m.now }
     ensures { Decides result (take 32 (drop at m.now) ≡ nonce.now) }

@@ -19,6 +19,8 @@ use faults::BookFault;
 pub const CHAINS: u8 = 64;
 
 // The records as the chains see them. A number that no record has reads as a blank record.
+// Stays numbers that lead from record to record, with zero for none: every byte of a book in lent memory is
+// promised, and the part has no heap for nodes of its own.
 pub trait Records {
     // The heads, the size and the records.
     ghost table: { Self → Table };

@@ -89,6 +89,7 @@ impl Desk for Empty {
     }
 }
 
+// Stays an impl for each kind: each lends its bytes by a call of its own, with a clause of its own on them.
 impl<'a> Shown for TapeBook<'a> {
     fn image(&self) -> &[u8] {
         self.memory()

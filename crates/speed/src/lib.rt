@@ -146,6 +146,7 @@ fn look_ups<L: Layout>(memory: &mut [u8], marked: &[u8], sought: &[u8], rounds: 
 }
 
 // In a chained book.
+// Stays a function for each kind of book, here and below: C calls them, and has no type parameters.
 #[unsafe(no_mangle)]
 pub extern "C" fn dilkortxi_chained_look_ups(
     memory: &mut [u8],

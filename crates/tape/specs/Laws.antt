@@ -1,10 +1,9 @@
 -- What follows from the layout, for every tape.
-use Rattle.std.specs.Prelude.{◌≡◌, ℕ, ◌+◌, ◌<◌, ◌≤◌, List, Ok, Err, Result}
+use Rattle.std.specs.Prelude.{◌≡◌, ℕ, List, Ok, Err}
 use Rattle.std.specs.List.{AllByRecursion}
-use Rattle.faults.specs.declared.WireFault.{WireFault}
 use Rattle.faults.specs.declared.WireFault.TheVariants.{WrongLength}
 use Rattle.book.specs.Meaning.{Pair, Shaped}
-use Rattle.tape.specs.Layout.{room_in, image, place, pairs_of, later, Sound}
+use Rattle.tape.specs.Layout.{room_in, image, pairs_of, later, Sound}
 
 -- What an image holds is read back from it, pair by pair and in their order.
 abbrev pub ReadBack : Type 0

@@ -1,9 +1,8 @@
 -- How a tape lies in memory: the size in two bytes, a record of 34 bytes for each pair in the order of
 -- marking, and zeros up to the capacity. What lies behind is none of the tape's.
-use Rattle.std.specs.Prelude.{◌≡◌, ℕ, ◌+◌, ◌-◌, ◌*◌, ◌/◌, ◌%◌, ◌<◌, ◌≤◌, min, cond, List, [], ◌∷◌, ◌++◌, map, length, take, drop, replicate, Ok, Err, Result, nat_lt, slice_index}
+use Rattle.std.specs.Prelude.{◌≡◌, ℕ, ◌+◌, ◌-◌, ◌*◌, ◌≤◌, List, [], ◌∷◌, ◌++◌, map, length, take, drop, replicate, Ok, Err, Result}
 use Rattle.std.specs.List.{range_with_len, flat_map}
 use Rattle.faults.specs.declared.BookFault.{BookFault}
-use Rattle.faults.specs.declared.BookFault.TheVariants.{Spent, Full}
 use Rattle.faults.specs.declared.WireFault.{WireFault}
 use Rattle.book.specs.Meaning.{Pair, Apart}
 use Rattle.book.specs.Rooms as rooms

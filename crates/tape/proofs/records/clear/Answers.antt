@@ -1,4 +1,4 @@
-use Rattle.std.proofs.Common.{◌≡◌, ℕ, ◌-◌, ◌<◌, ◌≤◌, List, [], length, get_or, ap, inr, arith}
+use Rattle.std.proofs.Common.{◌≡◌, ℕ, ◌-◌, ◌<◌, ◌≤◌, List, [], get_or, ap, inr, arith}
 use borrow.Rule.Slice.PartMut.{put_mid}
 use Rattle.book.proofs.Sets.{apart_none}
 use Rattle.tape.specs.Layout.{firsts, place}

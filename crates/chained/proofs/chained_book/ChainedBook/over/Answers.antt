@@ -1,4 +1,4 @@
-use Rattle.std.proofs.Common.{ℕ, List, length, sym, ap, ◌∙◌, subst, arith}
+use Rattle.std.proofs.Common.{ℕ, List, length, sym, ap, ◌∙◌, subst}
 use Rattle.chains.specs.Tables.{cleared}
 use Rattle.chains.specs.Chains.{pairs, Sound}
 use Rattle.chains.proofs.Meanings.{cleared_chains}

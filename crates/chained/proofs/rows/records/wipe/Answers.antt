@@ -1,4 +1,4 @@
-use Rattle.std.proofs.Common.{◌≡◌, ◌-◌, ◌<◌, ◌≤◌, ℕ, List, length, get_or, sym, subst, inr, arith}
+use Rattle.std.proofs.Common.{◌-◌, ℕ, List, sym, subst, inr, arith}
 use borrow.Rule.Slice.PartMut.{put_mid}
 use Rattle.book.proofs.Parts.{zeros_put}
 use Rattle.chains.specs.Tables.{zeroed}

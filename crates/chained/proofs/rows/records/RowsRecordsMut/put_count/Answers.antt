@@ -1,4 +1,4 @@
-use Rattle.std.proofs.Common.{◌≡◌, ℕ, List, length, refl, ap}
+use Rattle.std.proofs.Common.{ℕ, List, length, refl, ap}
 use Rattle.chained.specs.Facts.{room_fits}
 use Rattle.chained.proofs.Writes.{size_written}
 use Rattle.chained.proofs.rows.records.RowsRecordsMut.put_count.Goals as goal

@@ -1,4 +1,4 @@
-use Rattle.std.proofs.Common.{◌≡◌, ℕ, List, length, refl, ap, arith}
+use Rattle.std.proofs.Common.{ℕ, List, length, refl, ap, arith}
 use Rattle.chained.specs.Facts.{room_fits}
 use Rattle.chained.proofs.Writes.{head_written, no_head}
 use Rattle.chained.proofs.rows.records.RowsRecordsMut.put_head.Goals as goal

@@ -1,4 +1,4 @@
-use Rattle.std.proofs.Common.{◌≡◌, ◌≤◌, ℕ, List, length, ap}
+use Rattle.std.proofs.Common.{ℕ, List, length, ap}
 use Rattle.chained.specs.Facts.{room_fits}
 use Rattle.chained.proofs.rows.records.RowsRecordsMut.wipe.Goals as goal
 

@@ -1,4 +1,4 @@
-use Rattle.std.proofs.Common.{◌≡◌, ℕ, ◌≤◌, length, get_or}
+use Rattle.std.proofs.Common.{◌≡◌, ℕ, ◌≤◌, get_or}
 use Rattle.book.specs.Meaning.{others}
 use Rattle.tape.specs.Layout.{firsts, place}
 use Rattle.tape.proofs.tape_book.methods.TapeBookBook.drop_epoch.Given as goal

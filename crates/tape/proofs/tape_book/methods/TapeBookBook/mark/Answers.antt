@@ -1,9 +1,7 @@
 use Rattle.std.proofs.Common.{◌≡◌, ◌+◌, ◌<◌, length, sym, refl, ◌∙◌, subst, arith}
-use Rattle.std.specs.List.{ContainsAt as Has}
 use Rattle.std.proofs.lemmas.Bool.Decides.{not_from_Decides}
-use Rattle.book.specs.Meaning.{Pair}
 use Rattle.book.proofs.Facts.{becomes_pushed}
-use Rattle.tape.specs.Layout.{RoomIn, pairs_of}
+use Rattle.tape.specs.Layout.{RoomIn}
 use Rattle.tape.specs.Facts.{size_is}
 use Rattle.tape.specs.Books.{meaning_of}
 use Rattle.tape.proofs.Steps.{marked_book, book_fits}
