@@ -27,12 +27,7 @@ pub fn read(word: &[u8], at: usize, names: &Names, bytes: &mut Vec<u8>) -> Resul
     if let [b'$', text @ ..] = word {
         return recall(text, at, names, bytes);
     }
-    // Stays a match: after `map_err(|fault| misread(fault, at))` the goal `returns` was left open, that the two
-    // answers of `hex::read` are those of `argument`.
-    match hex::read(word, bytes) {
-        Ok(()) => Ok(()),
-        Err(fault) => Err(misread(fault, at)),
-    }
+    hex::read(word, bytes).map_err(|fault| misread(fault, at))
 }
 
 // What is wrong with a line in which a word is not read as hexadecimal.

@@ -1,7 +1,9 @@
-use Rattle.std.proofs.Common.{◌≡◌, ℕ, List, get_or, Ok, Err, vec_items, codes, Result, Vec, sym, ap, ◌∙◌, subst, append-nil, arith}
+use Rattle.std.proofs.Common.{rules, ◌≡◌, ℕ, List, get_or, Ok, Err, vec_items, codes, Result, Vec, sym, ap, ◌∙◌, subst, append-nil, arith}
 use Rattle.std.proofs.lemmas.Slice.Eq.{slice_eq-Decides}
 use Rattle.std.proofs.lemmas.List.{take_rest, get_or_past}
 use Rattle.std.proofs.lemmas.Bool.{both_ways, ltb-true}
+use Rattle.std.proofs.lemmas.Result.{err_from_is_err_and}
+use Rattle.std.specs.Result.{MatchResult, IsErrAnd}
 use Rattle.std.specs.declared.alloc.Global.{Global}
 use Rattle.text.specs.Hexadecimal.{reading, Reads}
 use Rattle.text.specs.declared.hex.HexFault.{HexFault}
@@ -33,6 +35,15 @@ adds_misread t v w at a (Wrong place) f is told read =
 adds_misread t v w at a hex.Memory f is told read =
     subst (λ x. Adds x v w (Err f)) (sym (is ∙ ap (as_bytes at) read.0)) (told, read.1, read.2)
 
+-- the same of whatever was read
+adds_read : (t : List ℕ) (v w : Vec ℕ Global) (at : ℕ) (a : Result (List ℕ) LineFault) (s : Result (Unit {0}) HexFault) (r : Result (Unit {0}) LineFault) (Q : HexFault → LineFault → Type 0) → ((e : HexFault) (f : LineFault) → Q e f → f ≡ misreading at e)
+    → a ≡ as_bytes at (reading t) → Reads t v w s → MatchResult s (λ x. r ≡ Ok x) (λ e. IsErrAnd r (Q e)) → Adds a v w r
+adds_read t v w at a (Ok u) r Q told is read m =
+    subst (λ x. Adds a v w x) (sym m) (subst (λ x. Adds x v w (Ok u)) (sym (is ∙ ap (as_bytes at) read.0)) read.1)
+adds_read t v w at a (Err e) r Q told is read m =
+    let p = err_from_is_err_and r m in
+    subst (λ x. Adds a v w x) (sym p.1) (adds_misread t v w at a e p.0 is (told e p.0 p.2) read)
+
 pub returns-then-eq : goal.returns-then-eq
 returns-then-eq c =
     let v = c.args.bytes.now in
@@ -45,12 +56,6 @@ returns-in-36 c =
     let is = is_recalled (holds c.args.names.now) c.args.at w (other (goal.at.returns-in-36 c).Else-eq) (omega arith) in
     subst (λ a. Adds a c.args.bytes.now c.recall.new.bytes c.recall.result) (ap (recalled (holds c.args.names.now) c.args.at) (take_rest w 1) ∙ sym is) c.recall.ensures
 
-pub returns-in-Ok : goal.returns-in-Ok
-returns-in-Ok c =
-    let read = c.in-Ok.ensures in
-    let is = as_read (goal.at.returns-in-Ok c).Joined-word-lt1 ∙ ap (as_bytes c.args.at) read.0 in
-    subst (λ a. Adds a c.args.bytes.now c.read.new.bytes (Ok tt)) (sym is) read.1
-
-pub returns-in-Err : goal.returns-in-Err
-returns-in-Err c =
-    adds_misread c.args.word.now c.args.bytes.now c.read.new.bytes c.args.at _ c.in-Err.fault _ (as_read (goal.at.returns-in-Err c).Joined-word-lt1) c.misread.ensures c.in-Err.ensures
+pub returns : goal.returns
+returns c =
+    adds_read c.args.word.now c.args.bytes.now c.read.new.bytes c.args.at _ c.read.result c.map_err.result _ (λ e f q. search rules) (as_read (goal.at.returns c).Joined-word-lt1) c.read.ensures c.map_err.ensures.cases
