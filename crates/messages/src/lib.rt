@@ -155,6 +155,8 @@ pub fn reply_len<G: Group>(count: u8) -> usize
 pub fn item<G: Group>(items: &[u8], i: usize) -> Option<&[u8]>
     ensures { item_seen result ≡ item_at G.model items.now i }
 {
+    // Stays an index: `items.chunks_exact(width).nth(i)` steps over every item before it, and it was left open
+    // that what it gives stands at i times the width.
     let width = G::element_width();
     if i >= items.len() / width {
         return None;

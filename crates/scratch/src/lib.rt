@@ -10,6 +10,8 @@ ghost use Rattle.std.specs.Prelude.{◌≡◌, length, replicate};
 // How many bytes a call asks for.
 pub const ENOUGH: usize = 1024;
 
+// Stays with its bytes open, and each call takes the first of them by `first_chunk_mut`: for a method that lends
+// them, `self.bytes.first_chunk_mut().ok_or(..)`, no proof is generated of what the guard holds afterwards.
 pub struct Scratch<'a> {
     pub bytes: &'a mut [u8],
 }

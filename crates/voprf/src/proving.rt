@@ -101,6 +101,8 @@ fn sum_items<G: Group>(
     Ok(sums)
 }
 
+// Stays a slice with a `requires` here, in `prove` and in `check`: an array would shut out who lends more bytes.
+//
 // M and W: the weighted sums of the elements sent and of the elements got, which stand as codes in two rows.
 pub fn composites<G: Group>(
     bytes: &mut [u8],
