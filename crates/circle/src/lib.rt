@@ -22,6 +22,8 @@ const P: u64 = 523;
 const MINUS_ONE: u64 = P - 1;
 
 // Two numbers modulo 523. A pair need not lie on the circle.
+// Stays numbers of 16 bits and no scalars of `Order<523>`: decoding makes a pair of whatever it reads, and
+// `is_member` refuses what is not below 523, which a scalar cannot hold.
 #[derive(Clone, Copy, PartialEq, Eq, Debug)]
 pub struct Pair {
     pub x: u16,

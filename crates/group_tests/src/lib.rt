@@ -14,17 +14,11 @@ mod tests {
     use std::test::Fail;
 
     fn element(code: &[u8; 2]) -> Result<Residue, Fail> {
-        match <Residue as Group>::decode(code) {
-            Ok(x) => Ok(x),
-            Err(_) => Err(Fail::new("no element")),
-        }
+        <Residue as Group>::decode(code).map_err(|_| Fail::new("no element"))
     }
 
     fn scalar(code: &[u8; 2]) -> Result<Scalar<1019>, Fail> {
-        match <Residue as Group>::decode_scalar(code) {
-            Ok(s) => Ok(s),
-            Err(_) => Err(Fail::new("no scalar")),
-        }
+        <Residue as Group>::decode_scalar(code).map_err(|_| Fail::new("no scalar"))
     }
 
     // A shop blinds 49 by 3, a station with the key 2 answers, and the shop unblinds: 1426, 593, 362.
@@ -48,10 +42,10 @@ mod tests {
     fn a_sum_tells_its_first_bad_item(rt: HostRuntime) -> Result<(), Fail> {
         let weights = [scalar(&[0, 1])?, scalar(&[0, 6])?];
         let nine: Residue = <Residue as Group>::base_multiple(scalar(&[0, 9])?);
-        match weighted_sum::<Residue>(&[0, 64, 0, 4], &weights) {
-            Ok(x) => assert_eq!(rt; x.value, nine.value),
-            Err(_) => return Err(Fail::new("both are codes")),
-        }
+        let sum = weighted_sum::<Residue>(&[0, 64, 0, 4], &weights).map_err(|_| Fail::new(
+            "both are codes",
+        ))?;
+        assert_eq!(rt; sum.value, nine.value);
         match weighted_sum::<Residue>(&[0, 64, 0, 0], &weights) {
             Err(SumFault::Item(item, _)) => {
                 assert_eq!(rt; item, 2);
@@ -64,9 +58,7 @@ mod tests {
     // 2 G = (372, 48), the word 2 maps to G, and (0, 1) is on the circle and no element.
     #[test]
     fn points_of_the_circle_are_told_apart(rt: HostRuntime) -> Result<(), Fail> {
-        let Ok(two) = <Point as Group>::decode_scalar(&[2]) else {
-            return Err(Fail::new("2 is a scalar"));
-        };
+        let two = <Point as Group>::decode_scalar(&[2]).map_err(|_| Fail::new("2 is a scalar"))?;
         let double: Point = <Point as Group>::base_multiple(two);
         assert_eq!(rt; double.pair, Pair { x: 372, y: 48 });
         let mut bytes = [0; 32];

@@ -16,6 +16,7 @@ use group::Group;
 use res2039::Residue;
 
 // Tries to decode, in any kind of group.
+// Stays a number and no Result: a program in C reads it.
 fn told<G: Group>(code: &[u8]) -> u8
     ensures answer { result ≡ told_by G.model code.now }
     ensures meaning { Tells G.model code.now result }
