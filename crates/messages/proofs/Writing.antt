@@ -1,5 +1,5 @@
 -- The writers: what parts that are put one behind the other leave in an outlet.
-use Rattle.std.proofs.Common.{◌≡◌, ℕ, ◌+◌, ◌*◌, ◌/◌, ◌%◌, ◌<◌, ◌≤◌, Bool, true, false, not, eqb, ltb, ◌⊎◌, List, [], ◌∷◌, ◌++◌, length, drop, Ok, Err, Result, sym, refl, ap, ◌∙◌, ⊎_elim, append-nil, mod-eq_of_lt, arith, length-append}
+use Rattle.std.proofs.Common.{◌≡◌, ℕ, ◌*◌, ◌/◌, ◌%◌, ◌<◌, ◌≤◌, Bool, true, false, not, eqb, ltb, ◌⊎◌, List, [], ◌∷◌, ◌++◌, length, drop, Ok, Err, Result, sym, refl, ap, ◌∙◌, ⊎_elim, append-nil, mod-eq_of_lt, arith, length-append}
 use Rattle.std.proofs.lemmas.List.{drop_all, take-append-drop}
 use Rattle.std.proofs.lemmas.Nat.{div_below}
 use Rattle.numbers.specs.declared.writer.Writer.{Writer}
@@ -10,7 +10,7 @@ use Rattle.faults.specs.declared.WireFault.{WireFault}
 use Rattle.faults.specs.declared.WireFault.TheVariants.{WrongLength, WrongCount, ShortOutlet}
 use Rattle.group.specs.Model.{Model}
 use Rattle.messages.specs.Answers.{over}
-use Rattle.messages.specs.Messages.{Batch, Answers, no_count, head_bytes, place, request_length, reply_length, request_bytes, reply_bytes, writes_request, writes_reply, writes_token, token_input_of, token_input_bytes, token_bytes}
+use Rattle.messages.specs.Messages.{Batch, Answers, no_count, head_bytes, place, request_length, reply_length, request_bytes, reply_bytes, writes_request, writes_reply, writes_token, token_input_of, token_input_bytes}
 use Rattle.messages.proofs.Ruled.{passed, stops, equal_passes, unequal_stops}
 
 -- all that fits was written

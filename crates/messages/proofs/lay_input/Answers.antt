@@ -1,4 +1,4 @@
-use Rattle.std.proofs.Common.{replicate, refl, ◌∙◌, arith}
+use Rattle.std.proofs.Common.{◌∙◌, arith}
 use Rattle.numbers.proofs.Writing.{and_then, same_part}
 use Rattle.messages.specs.Messages.{token_input_bytes}
 use Rattle.messages.proofs.Writing.{written_over, over_all, input_length}
