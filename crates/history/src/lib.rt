@@ -63,6 +63,7 @@ pub fn run<G: Group, B: Book + Drop>(book: B, calls: &[Call<'_>], outcomes: &mut
     let mut station = Station::<G, B>::new(book);
     let mut buffers = Buffers::new();
     let made = calls.len().min(outcomes.len());
+    // Stays an index into the outcomes: of what is written through `iter_mut` behind a `zip` a proof knows nothing.
     for (i, call) in calls[..made].iter().enumerate() {
         outcomes[i] = make(&mut station, &mut buffers, call);
     }
