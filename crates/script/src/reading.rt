@@ -62,8 +62,8 @@ pub struct Arguments<'a> {
     pub heap: Global,
 }
 
-// Stays a `requires` in each method that `next` can be counted on: an invariant would bound `next`, but not the
-// number after it, and each method would ask the same.
+// Stays a `requires` in each method that `next` can be counted on: an invariant that bounds `next` alone would not
+// bound the number after it, and each method would ask the same.
 impl<'a> Arguments<'a> {
     // The next word, with its number.
     fn word(&mut self) -> Result<(usize, &'a [u8]), LineFault>
