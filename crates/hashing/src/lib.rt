@@ -2,9 +2,8 @@
 //
 //   message, label, context string, length --digest--> 32 bytes --reduce--> scalar, or --map--> element
 //
-// The bytes to be hashed are put together in a buffer that the caller lends, from its front on. Each `put`
-// answers where it ended. Client and station lend the same scratch again and again, and zero it when they
-// are done.
+// The bytes to be hashed are put together by a writer, in a buffer that the caller lends. Client and station
+// lend the same scratch again and again, and zero it when they are done.
 #![tactic(auto)]
 
 ghost use Rattle.std.specs.Prelude.{◌≡◌, ℕ, ◌+◌, ◌-◌, ◌*◌, ◌/◌, ◌%◌, ◌^◌, ◌<◌, ◌≤◌, ◌++◌, length, take, codes};
