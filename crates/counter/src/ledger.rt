@@ -150,8 +150,8 @@ impl Ledger {
         ensures { IfOk result (λ v. map seen v.items ≡ map lent_of self.now.entries.items) }
     {
         let mut calls = Vec::new(heap);
-        for i in 0..self.entries.len() {
-            calls.push(self.entries[i].call())?;
+        for entry in &self.entries {
+            calls.push(entry.call())?;
         }
         Ok(calls)
     }

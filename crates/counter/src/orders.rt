@@ -46,10 +46,8 @@ fn begin<G: Group>(
     ensures answer { Begins (blind_answer G.model (length scratch.old) epoch order.entry.pk.now order.entry.seeds.now order.entry.blinds.now (length outlet.old)) epoch (length order.entry.seeds.now / 64) result }
     ensures outlet { outlet.new ≡ outlet_after (blind_answer G.model (length scratch.old) epoch order.entry.pk.now order.entry.seeds.now order.entry.blinds.now (length outlet.old)) outlet.old }
 {
-    match client::blind::<G>(scratch, epoch, order, outlet) {
-        Ok(batch) => Ok((batch, request_len::<G>((order.seeds.len() / 64) as u8))),
-        Err(fault) => Err(fault),
-    }
+    let batch = client::blind::<G>(scratch, epoch, order, outlet)?;
+    Ok((batch, request_len::<G>((order.seeds.len() / 64) as u8)))
 }
 
 // The same in the chosen group.

@@ -2,29 +2,18 @@
 //
 //   message, label, context string, length --digest--> 32 bytes --reduce--> scalar, or --map--> element
 //
-// The bytes to be hashed are put together by a writer, in a buffer that the caller lends. Client and station
+// The bytes to be hashed are put together by a `Writer` over a buffer that the caller lends. Client and station
 // lend the same scratch again and again, and zero it when they are done.
 #![tactic(auto)]
 
-ghost use Rattle.std.specs.Prelude.{◌≡◌, ℕ, ◌+◌, ◌-◌, ◌*◌, ◌/◌, ◌%◌, ◌^◌, ◌<◌, ◌≤◌, ◌++◌, length, take, codes};
+ghost use Rattle.std.specs.Prelude.{◌≡◌, ℕ, ◌+◌, ◌-◌, ◌*◌, ◌/◌, ◌%◌, ◌^◌, ◌<◌, ◌≤◌, ◌++◌, length, codes};
 ghost use Rattle.digest.specs.Sha256.{sha256};
 ghost use Rattle.numbers.specs.Writing.{put_so_far, room, Put};
-ghost use Rattle.hashing.specs.Appending.{Appended};
 ghost use Rattle.hashing.specs.Hashing.{context_string, framed_code, tagged, hash_to_scalar as scalar_hash, hash_to_group as group_hash, framed, key_id as id_of, authenticator as authentic};
 
 use digest::digest;
 use group::Group;
 use numbers::writer::Writer;
-
-// Copies the part to the place `at`, and answers where it ends.
-pub fn put(bytes: &mut [u8], at: usize, part: &[u8]) -> usize
-    requires { at + length part.now ≤ length bytes.old }
-    ensures { Appended bytes.old bytes.new at result part.now }
-{
-    let end = at + part.len();
-    bytes[at..end].copy_from_slice(part);
-    end
-}
 
 // The digest of bytes that are known to be few enough.
 pub fn hash(bytes: &[u8]) -> [u8; 32]

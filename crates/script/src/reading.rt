@@ -80,7 +80,7 @@ impl<'a> Arguments<'a> {
     }
 
     // The bytes that the next word stands for.
-    pub fn bytes(&mut self) -> Result<Vec<u8>, LineFault>
+    pub(crate) fn bytes(&mut self) -> Result<Vec<u8>, LineFault>
         requires { self.old.next < 16 }
         ensures { Brings self.old self.new result }
     {
@@ -91,7 +91,7 @@ impl<'a> Arguments<'a> {
     }
 
     // The number that the next word writes, where it is not above `most`.
-    pub fn number(&mut self, most: u64) -> Result<u64, LineFault>
+    pub(crate) fn number(&mut self, most: u64) -> Result<u64, LineFault>
         requires { self.old.next < 16 }
         ensures { Reads (first_number most) self.old self.new result }
     {
@@ -100,7 +100,7 @@ impl<'a> Arguments<'a> {
     }
 
     // The epoch that the next word writes.
-    pub fn epoch(&mut self) -> Result<u16, LineFault>
+    pub(crate) fn epoch(&mut self) -> Result<u16, LineFault>
         requires { self.old.next < 16 }
         ensures { Reads (first_number 65535) self.old self.new result }
     {
@@ -109,7 +109,7 @@ impl<'a> Arguments<'a> {
     }
 
     // The length of an outlet that the next word writes: `full` is one that every answer fits.
-    pub fn room(&mut self) -> Result<u64, LineFault>
+    pub(crate) fn room(&mut self) -> Result<u64, LineFault>
         requires { self.old.next < 16 }
         ensures { Reads first_room self.old self.new result }
     {
@@ -118,7 +118,7 @@ impl<'a> Arguments<'a> {
     }
 
     // The kind of book that the next word names.
-    pub fn shelf(&mut self) -> Result<Shelf, LineFault>
+    pub(crate) fn shelf(&mut self) -> Result<Shelf, LineFault>
         requires { self.old.next < 16 }
         ensures { Reads first_shelf self.old self.new result }
     {
@@ -127,7 +127,7 @@ impl<'a> Arguments<'a> {
     }
 
     // The group that the next word names.
-    pub fn kind(&mut self) -> Result<Kind, LineFault>
+    pub(crate) fn kind(&mut self) -> Result<Kind, LineFault>
         requires { self.old.next < 16 }
         ensures { Reads first_kind self.old self.new result }
     {
@@ -136,7 +136,7 @@ impl<'a> Arguments<'a> {
     }
 
     // The command has all its words.
-    pub fn end(mut self) -> Result<(), LineFault>
+    pub(crate) fn end(mut self) -> Result<(), LineFault>
         ensures { result ≡ at_end self.entry.next (left self.entry.words) }
     {
         match self.words.take() {

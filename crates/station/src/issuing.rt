@@ -3,14 +3,15 @@ ghost use Rattle.std.specs.Prelude.{◌≡◌, ℕ, ◌*◌, ◌<◌, ◌≤◌,
 ghost use Rattle.messages.specs.Answers.{over};
 ghost use Rattle.messages.specs.Messages.{reply_length};
 ghost use Rattle.messages.specs.Views.{batch};
+ghost use Rattle.numbers.specs.Writing.{put_so_far, room};
 ghost use Rattle.ring.specs.Places.{places, key_in};
 ghost use Rattle.token.specs.Tokens.{element_of};
 ghost use Rattle.station.specs.Issuing.{of_item, order_seen, Sound, accepted, answer_codes, replied, reply_counted, reply_laid};
 
 use faults::{BatchFault, StationFault, WireFault};
 use group::Group;
-use hashing::put;
 use messages::{Reply, Request, read_request, reply_len, write_reply};
+use numbers::writer::Writer;
 use ring::Ring;
 use scratch::ENOUGH;
 use token::{element, nonzero};
@@ -51,24 +52,25 @@ fn item<G: Group>(place: u8, code: &[u8]) -> Result<G, BatchFault>
     element::<G>(code).map_err(|fault| fault.of_item(place + 1))
 }
 
-// Puts the codes of the answers in a row from the front of `codes`, and answers where they end.
+// Puts the codes of the answers one behind the other.
 fn answer_items<G: Group>(
     key: G::NonZero,
     items: &[u8],
     count: u8,
-    codes: &mut [u8; 128],
-) -> Result<usize, BatchFault>
+    codes: &mut Writer<'_>,
+) -> Result<(), BatchFault>
     requires few { count ≤ 16 }
     requires whole { length items.now ≡ count * G.model.element_width }
-    ensures codes { MatchResult result (λ end. answer_codes G.model key 0 count items.now [] ≡ Ok (take end codes.new)) (λ f. answer_codes G.model key 0 count items.now [] ≡ Err f) }
-    ensures end { IfOk result (λ end. end ≡ count * G.model.element_width) }
+    requires none { codes.old.len ≡ 0 }
+    requires room { room codes.old ≡ 128 }
+    ensures codes { MatchResult result (λ _. answer_codes G.model key 0 count items.now [] ≡ Ok (put_so_far codes.new)) (λ f. answer_codes G.model key 0 count items.now [] ≡ Err f) }
+    ensures len { IfOk result (λ _. codes.new.len ≡ count * G.model.element_width) }
 {
-    let mut end = 0;
     for (place, code) in (0..count).zip(items.chunks_exact(G::element_width())) {
         let sent = item::<G>(place, code)?;
-        end = put(codes, end, evaluate(key, sent).encode().as_slice());
+        codes.put(evaluate(key, sent).encode().as_slice());
     }
-    Ok(end)
+    Ok(())
 }
 
 // Writes the reply to a request that may be answered to the front of the outlet, and answers its length.
@@ -83,9 +85,10 @@ pub fn reply<G: Group>(
     ensures answer { result ≡ reply_counted (replied G.model (record { batch = batch request.entry; key = key; nonce = nonce })) }
     ensures outlet { outlet.new ≡ reply_laid (replied G.model (record { batch = batch request.entry; key = key; nonce = nonce })) outlet.old }
 {
-    let mut codes = [0; 128];
-    let end = answer_items::<G>(key, request.items, request.count, &mut codes)?;
-    let items = &codes[0..end];
+    let mut buffer = [0; 128];
+    let mut codes = Writer::new(&mut buffer);
+    answer_items::<G>(key, request.items, request.count, &mut codes)?;
+    let items = codes.as_slice();
     let (c, s) = prove::<G>(bytes, key, nonce, public(key), request.items, items)?;
     let len = write_reply::<G>(
         Reply {

@@ -1,4 +1,5 @@
-use Rattle.std.proofs.Common.{◌≡◌, ℕ, ◌-◌, ◌*◌, ◌≤◌, [], length, take}
+use Rattle.std.proofs.Common.{◌≡◌, ℕ, ◌-◌, ◌*◌, ◌≤◌, [], length}
+use Rattle.numbers.specs.Writing.{put_so_far, room}
 use Rattle.station.specs.Issuing.{answer_codes}
 use Rattle.station.proofs.issuing.answer_items.Given as goal
 
@@ -11,6 +12,6 @@ invariant-loop-place g l =
     × (l.place-iterator.b.size ≡ m.element_width)
     × (l.place-iterator.a.end ≡ l.fn.count)
     × (from ≤ l.fn.count)
-    × (l.end ≡ from * m.element_width)
-    × (length l.codes ≡ 128)
-    × (answer_codes m l.fn.key from (l.fn.count - from) l.place-iterator.b.rest.now (take l.end l.codes) ≡ answer_codes m l.fn.key 0 l.fn.count l.fn.items [])
+    × (l.codes.len ≡ from * m.element_width)
+    × (room l.codes ≡ 128)
+    × (answer_codes m l.fn.key from (l.fn.count - from) l.place-iterator.b.rest.now (put_so_far l.codes) ≡ answer_codes m l.fn.key 0 l.fn.count l.fn.items [])
