@@ -146,15 +146,7 @@ fn open(
             let capacity = Tape::capacity_in(memory.len());
             print_book(rt, capacity)?;
             match capacity {
-                Ok(capacity) => {
-                    serve(
-                        rt,
-                        state,
-                        lines,
-                        below,
-                        TapeBook::over(memory, capacity),
-                    )
-                }
+                Ok(capacity) => { serve(rt, state, lines, below, TapeBook::over(memory, capacity)) }
                 Err(_) => serve(rt, state, lines, below, Empty),
             }
         }
@@ -163,13 +155,7 @@ fn open(
             print_book(rt, capacity)?;
             match capacity {
                 Ok(capacity) => {
-                    serve(
-                        rt,
-                        state,
-                        lines,
-                        below,
-                        ChainedBook::over(memory, capacity),
-                    )
+                    serve(rt, state, lines, below, ChainedBook::over(memory, capacity))
                 }
                 Err(_) => serve(rt, state, lines, below, Empty),
             }
