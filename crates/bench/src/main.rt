@@ -16,8 +16,8 @@ use chained::{Chained, ChainedBook};
 use client::Pending;
 use counter::Counter;
 use desk::{Desk, Empty};
-use faults::{Fault, Refusal, WireFault};
-use script::answers::{Answer, Report};
+use faults::{Fault, WireFault};
+use script::answers::{Answer, Outcome, Report};
 use script::command::Command;
 use script::errors::LineFault;
 use script::reading::Shelf;
@@ -114,7 +114,7 @@ fn serve<D: Desk + Drop>(
 
 // Prints the capacity of a book, or why there is none.
 fn print_book(rt: &HostRuntime, capacity: Result<u16, WireFault>) -> io::Result<()> {
-    let outcome: Result<Answer, Refusal> = match capacity {
+    let outcome: Outcome = match capacity {
         Ok(capacity) => Ok(Answer::Number(u64::from(capacity))),
         Err(fault) => Err(fault.refusal()),
     };
@@ -172,6 +172,8 @@ fn read_lines(rt: &HostRuntime, lines: &mut Vec<String>) -> io::Result<()> {
 }
 
 // Carries out the lines, book after book.
+// Stays with the place of the next line handed back: a book borrows memory that ends with it, so the lines below it
+// are carried out inside `open`.
 fn carry_out(rt: &HostRuntime, state: &mut State, lines: &[String]) -> io::Result<()> {
     let mut next = serve(rt, state, lines, 0, Empty)?;
     for (i, line) in lines.iter().enumerate() {

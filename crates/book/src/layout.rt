@@ -19,6 +19,8 @@ pub trait Layout {
 
     // Does a piece of work on a fresh book over the memory. Memory that holds no book is refused, and is left
     // as it is.
+    // Stays without a body here: it would have to name the type of the book, which has a lifetime, and an
+    // associated type takes none.
     fn with_book<W: Work + Drop>(memory: &mut [u8], work: W) -> Result<W::Answer, WireFault>
         ensures answer { Worked (W.told work) (room (length memory.old)) result }
         ensures stays { OnErr (room (length memory.old)) (memory.new ≡ memory.old) };

@@ -29,6 +29,7 @@ pub trait Book {
         ensures { Cleared (meaning self.old) (meaning self.new) };
 
     // Whether a pair is in the book.
+    // Stays with epoch and nonce apart, here and in the kinds: a token has them apart, and a record compares them so.
     fn has(&self, epoch: u16, nonce: &[u8; 32]) -> bool
         ensures { Decides result (In (meaning self.now) (epoch, nonce.now)) };
 

@@ -36,6 +36,7 @@ pub fn send<G: Group>(
 }
 
 // What is made of each item of a batch: bytes, as many of each, of its input, its blind and its answer.
+// Stays with input, blind and answer apart: each step uses other ones of them, and a struct would be taken apart at once.
 pub trait Step<G: Group> {
     ghost made: { List ℕ → List ℕ → List ℕ → Result (List ℕ) GroupFault };
 

@@ -59,6 +59,7 @@ const KINDS: [Kind; 2] = [Kind::Res2039, Kind::Circ523];
 
 impl Kind {
     // The kind of this name.
+    // Stays a function, as `Shelf::of` and `Command::of` of a script: a trait for the three would have this one line.
     pub fn of(word: &[u8]) -> Option<Kind>
         ensures { result ≡ kind_of word.now }
     {

@@ -13,9 +13,10 @@ use book::{Book, Layout, Work};
 use chained::Chained;
 use circ523::Point;
 use commands::Kind;
-use faults::{Fault, Refusal, WireFault};
+use faults::{Fault, WireFault};
 use history::{Call, Outcome, Output};
 use res2039::Residue;
+use script::answers;
 use script::answers::Answer;
 use script::errors::LineFault;
 use script::protocol::Service;
@@ -90,6 +91,7 @@ impl<'a, 'b> Work for Replay<'a, 'b> {
 }
 
 // Makes the calls on a fresh station of the chosen group.
+// Stays a match of two arms, as in the calls of `commands::Kind`.
 fn run<B: Book + Drop>(kind: Kind, book: B, calls: &[Call<'_>], outcomes: &mut [Outcome])
     ensures { LawfulIn kind (B.Book.meaning book).capacity (reverse (events calls.now outcomes.new)) }
 {
@@ -104,7 +106,7 @@ fn run<B: Book + Drop>(kind: Kind, book: B, calls: &[Call<'_>], outcomes: &mut [
 }
 
 // What a call told, as a line's answer.
-fn answer(outcome: Outcome, heap: Global) -> Result<Result<Answer, Refusal>, LineFault>
+fn answer(outcome: Outcome, heap: Global) -> Result<answers::Outcome, LineFault>
     ensures { Says (told outcome) result }
 {
     match outcome {
@@ -119,6 +121,7 @@ fn answer(outcome: Outcome, heap: Global) -> Result<Result<Answer, Refusal>, Lin
 }
 
 // Makes the calls on a station over a fresh book.
+// Stays a match of two arms, as in `Counter::station`: a kind of book is a type, and a line chooses it by a value.
 fn over(
     shelf: Shelf,
     memory: &mut [u8],
@@ -157,7 +160,7 @@ impl Ledger {
     }
 
     // Makes all the calls on a fresh station, and answers what the last told.
-    fn replay(&self, heap: Global) -> Result<Result<Answer, Refusal>, LineFault>
+    fn replay(&self, heap: Global) -> Result<answers::Outcome, LineFault>
         ensures { ServesAt (standing self.now) result }
     {
         let calls = self.calls(heap)?;
@@ -182,7 +185,7 @@ impl Ledger {
         buffers: Buffers,
         service: Service,
         heap: Global,
-    ) -> Result<Result<Answer, Refusal>, LineFault>
+    ) -> Result<answers::Outcome, LineFault>
         ensures answer { ServesAt (grown (standing self.old) (lent buffers (served_of service))) result }
         ensures kept { KeepsCall (grown (standing self.old) (lent buffers (served_of service))) (standing self.new) result }
     {

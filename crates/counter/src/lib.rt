@@ -15,13 +15,13 @@ ghost use Rattle.counter.specs.Orders.{waiting};
 
 use book::Layout;
 use chained::Chained;
-use client::Pending;
+use client::{Order, Pending};
 use commands::Kind;
-use faults::{Fault, Refusal};
+use faults::Fault;
 use ledger::Ledger;
 use orders::Buffers;
 use scratch::ENOUGH;
-use script::answers::Answer;
+use script::answers::{Answer, Outcome};
 use script::errors::LineFault;
 use script::protocol::Action;
 use script::reading::{ROOM, Shelf};
@@ -62,13 +62,7 @@ impl Counter {
     }
 
     // Makes a station over a fresh book of so many bytes, in place of the one before.
-    fn station(
-        &mut self,
-        kind: Kind,
-        shelf: Shelf,
-        length: usize,
-        heap: Global,
-    ) -> Result<Answer, Refusal>
+    fn station(&mut self, kind: Kind, shelf: Shelf, length: usize, heap: Global) -> Outcome
         ensures lengths { self.new.buffers ≡ self.old.buffers }
         ensures station { Founded kind (places_in shelf length) (stands self.new.ledger) (outcome_of result) }
     {
@@ -95,7 +89,7 @@ impl Counter {
         action: Action,
         pending: &mut Option<Pending>,
         heap: Global,
-    ) -> Result<Result<Answer, Refusal>, LineFault>
+    ) -> Result<Outcome, LineFault>
         ensures lengths { self.new.buffers ≡ lengths_after (acted_of action) self.old.buffers }
         ensures answer { Answered kind self.old.buffers (waiting pending.old) (waiting pending.new) (acted_of action) result }
         ensures station { Stations kind self.old.buffers (stands self.old.ledger) (stands self.new.ledger) (acted_of action) result }
@@ -115,31 +109,27 @@ impl Counter {
                 pk,
                 seeds,
                 blinds,
-            } => orders::blind(
-                kind,
-                buffers,
-                pending,
-                epoch,
-                pk.as_slice(),
-                seeds.as_slice(),
-                blinds.as_slice(),
-                heap,
-            ),
+            } => {
+                let order = Order {
+                    pk: pk.as_slice(),
+                    seeds: seeds.as_slice(),
+                    blinds: blinds.as_slice(),
+                };
+                orders::blind(kind, buffers, pending, epoch, order, heap)
+            }
             Action::Finish {
                 pk,
                 seeds,
                 blinds,
                 reply,
-            } => orders::finish(
-                kind,
-                buffers,
-                pending,
-                pk.as_slice(),
-                seeds.as_slice(),
-                blinds.as_slice(),
-                reply.as_slice(),
-                heap,
-            ),
+            } => {
+                let order = Order {
+                    pk: pk.as_slice(),
+                    seeds: seeds.as_slice(),
+                    blinds: blinds.as_slice(),
+                };
+                orders::finish(kind, buffers, pending, order, reply.as_slice(), heap)
+            }
             Action::Abandon => orders::abandon(pending),
             Action::Station { shelf, length } => {
                 Ok(self.station(kind, shelf, length as usize, heap))

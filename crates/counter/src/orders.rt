@@ -9,11 +9,11 @@ ghost use Rattle.counter.specs.Orders.{blind_in, finish_in, blind_turn, finish_t
 use circ523::Point;
 use client::{Order, Pending, Unfinished};
 use commands::Kind;
-use faults::{BatchFault, Fault, Refusal};
+use faults::{BatchFault, Fault};
 use group::Group;
 use messages::request_len;
 use res2039::Residue;
-use script::answers::Answer;
+use script::answers::{Answer, Outcome};
 use script::errors::LineFault;
 use std::alloc::Global;
 
@@ -51,6 +51,7 @@ fn begin<G: Group>(
 }
 
 // The same in the chosen group.
+// Stays a match of two arms, here and below, as in the calls of `commands::Kind`.
 fn begin_in(
     kind: Kind,
     scratch: &mut [u8],
@@ -73,12 +74,10 @@ pub fn blind(
     buffers: Buffers,
     pending: &mut Option<Pending>,
     epoch: u16,
-    pk: &[u8],
-    seeds: &[u8],
-    blinds: &[u8],
+    order: Order<'_>,
     heap: Global,
-) -> Result<Result<Answer, Refusal>, LineFault>
-    ensures { Takes (blind_turn kind buffers.scratch buffers.outlet (waiting pending.old) epoch pk.now seeds.now blinds.now) (waiting pending.old) (waiting pending.new) result }
+) -> Result<Outcome, LineFault>
+    ensures { Takes (blind_turn kind buffers.scratch buffers.outlet (waiting pending.old) epoch order.entry.pk.now order.entry.seeds.now order.entry.blinds.now) (waiting pending.old) (waiting pending.new) result }
 {
     if pending.is_some() {
         return Err(LineFault::PendingBatch);
@@ -89,7 +88,7 @@ pub fn blind(
         kind,
         scratch.as_mut_slice(),
         epoch,
-        Order { pk, seeds, blinds },
+        order,
         outlet.as_mut_slice(),
     ) {
         Ok(begun) => {
@@ -125,13 +124,11 @@ pub fn finish(
     kind: Kind,
     buffers: Buffers,
     pending: &mut Option<Pending>,
-    pk: &[u8],
-    seeds: &[u8],
-    blinds: &[u8],
+    order: Order<'_>,
     reply: &[u8],
     heap: Global,
-) -> Result<Result<Answer, Refusal>, LineFault>
-    ensures { Takes (finish_turn kind buffers.scratch buffers.outlet (waiting pending.old) pk.now seeds.now blinds.now reply.now) (waiting pending.old) (waiting pending.new) result }
+) -> Result<Outcome, LineFault>
+    ensures { Takes (finish_turn kind buffers.scratch buffers.outlet (waiting pending.old) order.entry.pk.now order.entry.seeds.now order.entry.blinds.now reply.now) (waiting pending.old) (waiting pending.new) result }
 {
     let mut scratch = vec![in heap; 0u8; buffers.scratch]?;
     let mut outlet = vec![in heap; 0u8; buffers.outlet]?;
@@ -142,7 +139,7 @@ pub fn finish(
         kind,
         scratch.as_mut_slice(),
         batch,
-        Order { pk, seeds, blinds },
+        order,
         reply,
         outlet.as_mut_slice(),
     ) {
@@ -162,7 +159,7 @@ pub fn finish(
 }
 
 // `abandon`: gives the pending batch up, and answers its epoch and how many items it has.
-pub fn abandon(pending: &mut Option<Pending>) -> Result<Result<Answer, Refusal>, LineFault>
+pub fn abandon(pending: &mut Option<Pending>) -> Result<Outcome, LineFault>
     ensures { Takes (abandon_turn (waiting pending.old)) (waiting pending.old) (waiting pending.new) result }
 {
     match pending.take() {

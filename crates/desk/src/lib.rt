@@ -11,8 +11,8 @@ ghost use Rattle.desk.specs.Calls.{Marks, Tells};
 
 use book::Book;
 use chained::ChainedBook;
-use faults::{BookFault, Fault, Refusal, StationFault, WireFault};
-use script::answers::Answer;
+use faults::{BookFault, Fault, StationFault, WireFault};
+use script::answers::{Answer, Outcome};
 use script::errors::LineFault;
 use script::tasks::Call;
 use std::alloc::Global;
@@ -25,7 +25,7 @@ pub trait Shown: Book {
 
 // What answers the calls of a script.
 pub trait Desk {
-    fn answer(&mut self, call: &Call, heap: Global) -> Result<Result<Answer, Refusal>, LineFault>;
+    fn answer(&mut self, call: &Call, heap: Global) -> Result<Outcome, LineFault>;
 }
 
 // Adds a pair to the book; a nonce that is not 32 bytes is refused as a wrong length.
@@ -50,11 +50,7 @@ pub fn has<B: Book>(book: &B, epoch: u16, nonce: &[u8]) -> Result<bool, WireFaul
 }
 
 // What a book answers to a call.
-pub fn ask<B: Shown>(
-    book: &mut B,
-    call: &Call,
-    heap: Global,
-) -> Result<Result<Answer, Refusal>, LineFault> {
+pub fn ask<B: Shown>(book: &mut B, call: &Call, heap: Global) -> Result<Outcome, LineFault> {
     let answer = match call {
         Call::Mark { epoch, nonce } => match mark(book, *epoch, nonce.as_slice()) {
             Ok(()) => Answer::Done,
@@ -80,11 +76,7 @@ pub fn ask<B: Shown>(
 pub struct Empty;
 
 impl Desk for Empty {
-    fn answer(
-        &mut self,
-        _call: &Call,
-        _heap: Global,
-    ) -> Result<Result<Answer, Refusal>, LineFault> {
+    fn answer(&mut self, _call: &Call, _heap: Global) -> Result<Outcome, LineFault> {
         Err(LineFault::NoBook)
     }
 }
@@ -103,7 +95,7 @@ impl<'a> Shown for ChainedBook<'a> {
 }
 
 impl<B: Shown> Desk for B {
-    fn answer(&mut self, call: &Call, heap: Global) -> Result<Result<Answer, Refusal>, LineFault> {
+    fn answer(&mut self, call: &Call, heap: Global) -> Result<Outcome, LineFault> {
         ask(self, call, heap)
     }
 }

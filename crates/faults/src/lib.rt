@@ -8,9 +8,9 @@
 //   9  outlet too short      wire       11  the proof fails           proof     13  authenticator        token
 //  14  pair is spent         book       15  no free place             book          differs
 //
-// Each layer has an enum of its own, whose variants have these numbers. A layer above keeps a fault from below whole inside its own enum,
-// so nothing is lost on the way up: the group's inside the batch's, which adds the item, and the batch's
-// and the book's inside the station's. `docs/FAULTS.md` has the whole list, with when each is told.
+// Each layer has an enum of its own, whose variants have these numbers. A layer above keeps a fault from below
+// whole inside its own enum, so nothing is lost on the way up: the group's inside the batch's, which adds the
+// item, and the batch's and the book's inside the station's. `docs/FAULTS.md` has the whole list, with when each is told.
 #![tactic(auto)]
 
 ghost use Rattle.std.specs.Prelude.{◌≡◌};
@@ -65,7 +65,7 @@ impl Layer {
 }
 
 // What a refusal tells. The item counts from 1, and is 0 where the fault is of no item.
-// Stays a number with its 0, and no `Option` of an item: C and reports are told it so.
+// Stays a number with its 0, and no `Option` of an item: a report prints `item 0` where there is none.
 #[derive(Clone, Copy, PartialEq, Eq, Debug)]
 pub struct Refusal {
     pub number: u8,

@@ -67,6 +67,8 @@ pub trait Group: Copy {
     fn base_multiple(s: Self::Scalar) -> Self
         ensures { result ≡ base_multiple model s };
 
+    // Stays a method, with `same_scalar`: a bound `Eq` says by a law that `==` decides equality, and each proof that
+    // compares would have to cite it.
     fn same(self, other: Self) -> bool
         ensures { Decides result (self ≡ other) };
 

@@ -81,6 +81,8 @@ pub fn hash_to_scalar<G: Group>(transcript: &mut Writer<'_>) -> G::Scalar
 }
 
 // An input, hashed to an element.
+// Stays with its two `requires`, which the steps over it ask too: inputs of any length up to 4,000 may come, in any
+// buffer with room, and a type of one length would shut out the others.
 pub fn hash_to_group<G: Group>(bytes: &mut [u8], input: &[u8]) -> G
     requires room { length input.now + 45 ≤ length bytes.old }
     requires few { length input.now ≤ 4000 }

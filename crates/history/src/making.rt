@@ -30,6 +30,8 @@ impl Buffers {
         }
     }
 
+    // Stays beside `issue`, with the same lending of the buffers: a closure for the call between would have to say in
+    // a contract of its own what the call leaves of the station.
     pub fn open<G: Group, B: Book>(
         &mut self,
         station: &mut Station<G, B>,

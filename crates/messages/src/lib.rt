@@ -21,6 +21,7 @@ use group::Group;
 use numbers::writer::Writer;
 
 // What stands at the front of a request and of a reply.
+// Stays with a number for its kind, as a token does: a maker's kind of group brings its own, and no enum could list them.
 #[derive(Clone, Copy)]
 pub struct Header {
     pub kind: u16,
@@ -29,6 +30,7 @@ pub struct Header {
 }
 
 // A request: the codes of its items stand in a row.
+// Stays with its count beside them: how long a code is, and so how many there are, only a kind of group says.
 #[derive(Clone, Copy)]
 pub struct Request<'a> {
     pub epoch: u16,
@@ -245,6 +247,7 @@ fn lay_input(
 }
 
 // The input of a token, which a shop blinds and an authenticator is of.
+// Stays with its parts one by one: a struct of them would be made for this call and be taken apart in it.
 pub fn token_input(
     kind: u16,
     epoch: u16,

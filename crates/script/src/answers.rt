@@ -39,8 +39,8 @@ impl Report {
     pub fn write(&self, line: &mut Vec<u8>) -> Result<(), AllocError>
         ensures { Appends (printed self.now) line.old line.new result }
     {
-        // Stays a list of pieces: `write!` of a `Display` into a `Vec<u8>` answers an `io::Error`, which does not say
-        // that memory was wanting.
+        // Stays a list of pieces: `write!` says what it wrote only where it succeeds, and this call says that the line
+        // is as it was where memory ends.
         let word = Piece::Text(self.command.word());
         match &self.outcome {
             Ok(Answer::Done | Answer::Chose(_)) => {

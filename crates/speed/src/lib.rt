@@ -28,6 +28,7 @@ mod stations;
 const EPOCH: u16 = 1;
 
 // Writes the digest to the front of `out` and answers 0, or answers the fault's number and writes nothing.
+// Stays a number and no Result, here and below: C reads it.
 #[unsafe(no_mangle)]
 pub extern "C" fn dilkortxi_digest(input: &[u8], out: &mut [u8]) -> u8
     ensures status { result ≡ digest_status input.now (length out.old) }

@@ -73,6 +73,8 @@ fn spell(number: u64, digits: &mut [u8; DIGITS]) -> usize
 }
 
 // Adds the number's digits to the end of `text`.
+// Stays a spelling of its own: `write!` says what it wrote only where it succeeds, and this call says that the text
+// is as it was where memory ends.
 pub fn write(number: u64, text: &mut Vec<u8>) -> Result<(), AllocError>
     ensures { Appends (decimal number) text.old text.new result }
 {

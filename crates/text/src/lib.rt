@@ -9,6 +9,8 @@
 //
 // Each byte string and each number has one written form, and a reader accepts that form alone. What is
 // read otherwise is refused with its place.
+//
+// Stays on bytes, and no `str`: all that is read is ASCII, and a place in a word is a number of bytes.
 #![tactic(auto)]
 
 pub mod class;

@@ -54,6 +54,8 @@ fn weight<G: Group>(
 }
 
 // The element of an item's code; a fault of the group becomes one of the batch, with the item, from 1.
+// Stays with a `requires` of the place, as a station's item does: places count from 0 and items from 1, and a type
+// for numbers below 16 would be made for this one sum.
 fn element<G: Group>(place: u16, code: &[u8]) -> Result<G, BatchFault>
     requires { place < 16 }
     ensures { result ≡ read_item G.model place (G.model.element code.now) }

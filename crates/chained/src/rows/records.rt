@@ -18,6 +18,8 @@ pub const HEAD: usize = 132;
 pub const RECORD: usize = 36;
 
 // Where the record of a number begins.
+// Stays a place, from which the parts of a record are reckoned: each call reads or writes one part, and a record as
+// an array would be borrowed whole for it.
 fn start(number: u16) -> usize
     requires { 1 ≤ number }
     ensures { result ≡ place (number - 1) }

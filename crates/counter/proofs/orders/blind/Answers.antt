@@ -8,7 +8,7 @@ use Rattle.counter.proofs.orders.blind.Goals as goal
 pub returns-in-Ok : goal.returns-in-Ok
 returns-in-Ok c =
     let told = c.in-Ok.ensures in
-    blind_says c.args.kind c.args.buffers.scratch c.args.buffers.outlet c.args.epoch c.args.pk.now c.args.seeds.now c.args.blinds.now
+    blind_says c.args.kind c.args.buffers.scratch c.args.buffers.outlet c.args.epoch c.args.order.pk.now c.args.order.seeds.now c.args.order.blinds.now
     (waiting c.args.pending.now) _ _ c.in-Ok.begun c.as_mut_slice-2.result.now c.begin_in.new.outlet (vec_items c.truncate.new.self)
     (none_waits c.args.pending.now (sym c.is_some.ensures ∙ c.if-is_some.false))
     (c.as_mut_slice.ensures.len ∙ c.in_ok-scratch.ensures.len)

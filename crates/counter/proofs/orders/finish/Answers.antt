@@ -8,7 +8,7 @@ use Rattle.counter.proofs.orders.finish.Goals as goal
 pub returns-in-Ok : goal.returns-in-Ok
 returns-in-Ok c =
     let told = c.in-Ok.ensures in
-    finish_says c.args.kind c.args.buffers.scratch c.args.buffers.outlet c.args.pk.now c.args.seeds.now c.args.blinds.now c.args.reply.now
+    finish_says c.args.kind c.args.buffers.scratch c.args.buffers.outlet c.args.order.pk.now c.args.order.seeds.now c.args.order.blinds.now c.args.reply.now
     (waiting c.args.pending.now) _ _ c.in-Some.batch c.in-Ok.count c.as_mut_slice-2.result.now c.finish_in.new.outlet (vec_items c.truncate.new.self)
     (ap waiting (sym c.in-Some.ensures.value))
     (c.as_mut_slice.ensures.len ∙ c.in_ok-scratch.ensures.len)
