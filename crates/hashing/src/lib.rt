@@ -61,6 +61,8 @@ fn hash_tagged<G: Group>(transcript: &mut Writer<'_>, label: &[u8]) -> [u8; 32]
     requires label { length label.now ≤ 13 }
     ensures hash { result ≡ sha256 (tagged G.model label.now (put_so_far transcript.old)) }
     ensures lent { transcript.new.bytes.ghost_name ≡ transcript.old.bytes.ghost_name }
+    ensures room { room transcript.new ≡ room transcript.old }
+    ensures len { (transcript.old.len ≤ transcript.new.len) × (transcript.new.len ≤ transcript.old.len + 45) }
 {
     let message = transcript.as_slice().len();
     transcript.put(label);
@@ -76,6 +78,8 @@ pub fn hash_to_scalar<G: Group>(transcript: &mut Writer<'_>) -> G::Scalar
     requires few { transcript.old.len ≤ 4000 }
     ensures hash { result ≡ scalar_hash G.model (put_so_far transcript.old) }
     ensures lent { transcript.new.bytes.ghost_name ≡ transcript.old.bytes.ghost_name }
+    ensures room { room transcript.new ≡ room transcript.old }
+    ensures len { (transcript.old.len ≤ transcript.new.len) × (transcript.new.len ≤ transcript.old.len + 45) }
 {
     G::reduce(&hash_tagged::<G>(transcript, b"HashToScalar-"))
 }

@@ -1,4 +1,4 @@
--- What a writer has put: parts one behind the other from the front of its buffer.
+-- What a writer has put: parts one behind the other from the front of its buffer, or behind what stood there.
 use Rattle.std.specs.Prelude.{◌≡◌, ℕ, ◌+◌, List, ◌++◌, length, take, drop}
 use Rattle.numbers.specs.declared.writer.Writer.{Writer}
 

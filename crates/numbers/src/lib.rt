@@ -1,8 +1,9 @@
 // Numbers and their bytes, below every kind of group.
 //
-// Two things that scalars and elements share: the code, at most 8 bytes with the high byte first, and
-// the word, the number in the first 8 of 32 bytes, that maps and reductions begin with. The lemmas on
-// remainders, powers and primes that every kind of group needs stand in `proofs/`.
+// What scalars and elements share: the code, at most 8 bytes with the high byte first; the word, the number
+// in the first 8 of 32 bytes, that maps and reductions begin with; and what is joined with itself so many
+// times, a multiple or a power. And the writer, by which hash inputs and messages are put together. The lemmas
+// on remainders, powers and primes that every kind of group needs stand in `proofs/`.
 #![tactic(auto)]
 
 ghost use Rattle.std.specs.Prelude.{◌≡◌, ℕ, ◌+◌, ◌*◌, ◌/◌, ◌%◌, ◌≤◌, List, [], ◌∷◌, length};

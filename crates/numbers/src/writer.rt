@@ -1,7 +1,7 @@
 // Parts put one behind the other from the front of a buffer that the caller lends.
 ghost use Rattle.std.specs.Prelude.{◌≡◌, ℕ, ◌+◌, ◌≤◌, [], length};
 
-// The bytes from the front up to `len` were put; those behind them are as they were lent.
+// The bytes from the front up to `len` were put, or count as put; those behind them are as they were lent.
 #[derive(Drop)]
 pub struct Writer<'a> {
     bytes: &'a mut [u8],
@@ -20,6 +20,16 @@ impl<'a> Writer<'a> {
         ensures len { result.len ≡ 0 }
     {
         Writer { bytes, len: 0 }
+    }
+
+    // A writer behind the first `len` bytes of a buffer, whoever wrote them: they count as put.
+    pub fn behind(bytes: &'a mut [u8], len: usize) -> Writer<'a>
+        requires { len ≤ length bytes.old }
+        ensures lent { result.bytes.ghost_name ≡ bytes.entry.ghost_name }
+        ensures bytes { result.bytes.now ≡ bytes.old }
+        ensures len { result.len ≡ len }
+    {
+        Writer { bytes, len }
     }
 
     // Puts a part behind those before it.
