@@ -1,7 +1,7 @@
 -- The end of a padded message, as it is put together in a buffer.
 use Rattle.std.proofs.Common.{◌≡◌, ℕ, zero, suc, ◌+◌, ◌-◌, ◌*◌, ◌<◌, ◌≤◌, List, [], ◌∷◌, ◌++◌, length, take, drop, set, replicate, sym, refl, ap, ◌∙◌, append_assoc, arith}
 use borrow.Rule.Slice.PartMut.{put_mid}
-use Rattle.std.proofs.lemmas.List.{append-nil, length-append, length-replicate, drop-replicate, take-replicate, set-append_right, drop-drop, drop_all}
+use Rattle.std.proofs.lemmas.List.{append-nil, length-append, length-replicate, drop-replicate, take-replicate, set-append_right, drop-drop, drop_all, length-take-le, length-drop}
 use Rattle.digest.specs.Padding.{eight_bytes, zeros_after, padding, padded, PaddingIsTheStandards}
 
 -- n zeros from the front on, with the first of them overwritten
@@ -55,6 +55,13 @@ pub padding_to : (n total e : ℕ) → zeros_after total ≡ e - 9 - n
     → 0x80 ∷ (replicate (e - 9 - n) 0 ++ eight_bytes (8 * total)) ≡ padding total
 unfolding padding
 padding_to n total e h = ap (λ (k : ℕ). 0x80 ∷ (replicate k 0 ++ eight_bytes (8 * total))) (sym h)
+
+-- a write to a part keeps the length
+pub length_put_mid : (a k : ℕ) (xs ys : List ℕ) → a + k ≤ length xs → length ys ≡ k → length (put_mid a k xs ys) ≡ length xs
+length_put_mid a k xs ys inside same =
+    length-append (take a xs) (ys ++ drop k (drop a xs))
+    ∙ ap (λ (n : ℕ). length (take a xs) + n) (length-append ys (drop k (drop a xs)))
+    ∙ omega (arith, length-take-le a xs (omega arith), length-drop k (drop a xs), length-drop a xs)
 
 padded_length : (m : List ℕ) → length (padded m) ≡ length m + (zeros_after (length m) + 9)
 unfolding padding eight_bytes

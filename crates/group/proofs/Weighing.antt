@@ -38,6 +38,11 @@ length_quotient n k w h e =
 pub item_within : (at i w n len : ℕ) → i < n → at ≡ i * w → len ≡ n * w → at + w ≤ len
 item_within at i w n len h e l = omega (arith, mul-le-mul_right w h, suc-mul i w)
 
+pub drop_some : {X : Type 0} (xs : List X) (i : ℕ) → i < length xs → (x : X) × (drop i xs ≡ x ∷ drop (suc i) xs)
+drop_some [] i h = absurd (omega arith)
+drop_some (x ∷ xs) zero h = (x, refl)
+drop_some (x ∷ xs) (suc i) h = drop_some xs i (omega arith)
+
 fewer : (a b w : ℕ) → 1 ≤ w → suc a * w ≤ b * w → a < b
 fewer a b w h le = le_of_mul-le-mul_right le h
 

@@ -7,7 +7,21 @@ use Rattle.std.proofs.lemmas.Nat.{div_below, div-mul-add, mod-mul-add}
 use Rattle.std.proofs.lemmas.List.{take_more}
 use Rattle.std.proofs.ByRecursion.{All-push, All-get_or}
 use Rattle.std.proofs.lemmas.Bool.{ltb-true, lt-ltb, and_from, and_parts}
-use Rattle.numbers.specs.Bytes.{read, written, are_bytes}
+use Rattle.numbers.specs.Bytes.{read, written, word, are_bytes}
+
+-- the word is the sum of the first 8 bytes, each at its place
+pub word_is : (xs : List ℕ) → 8 ≤ length xs →
+    get_or xs 0 0 * 72057594037927936 + get_or xs 1 0 * 281474976710656 + get_or xs 2 0 * 1099511627776 + get_or xs 3 0 * 4294967296 + get_or xs 4 0 * 16777216 + get_or xs 5 0 * 65536 + get_or xs 6 0 * 256 + get_or xs 7 0 ≡ word xs
+unfolding word
+word_is [] h = absurd (omega arith)
+word_is (a ∷ []) h = absurd (omega arith)
+word_is (a ∷ b ∷ []) h = absurd (omega arith)
+word_is (a ∷ b ∷ c ∷ []) h = absurd (omega arith)
+word_is (a ∷ b ∷ c ∷ d ∷ []) h = absurd (omega arith)
+word_is (a ∷ b ∷ c ∷ d ∷ e ∷ []) h = absurd (omega arith)
+word_is (a ∷ b ∷ c ∷ d ∷ e ∷ f ∷ []) h = absurd (omega arith)
+word_is (a ∷ b ∷ c ∷ d ∷ e ∷ f ∷ g ∷ []) h = absurd (omega arith)
+word_is (a ∷ b ∷ c ∷ d ∷ e ∷ f ∷ g ∷ i ∷ xs) h = omega arith
 
 -- eight bytes read as their sum, each at its place
 pub read_eight : (xs : List ℕ) → length xs ≡ 8 →

@@ -5,7 +5,7 @@ use Rattle.std.proofs.lemmas.Bool.{eqb-true, and_parts}
 use native.Mathlib.Nat.{pow-zero, mod-add-div, mul-mul-mul_comm, pow-succ'}
 use Rattle.numbers.specs.Cycle.{Member, exponent, Cycle, stepwise, are_powers}
 use Rattle.numbers.proofs.Sought.{found}
-use Rattle.numbers.proofs.Mod.{mod_mul_left, mod_mul_right}
+use Rattle.numbers.proofs.Mod.{mod_mul_left, mod_mul_right, half_odd, half_even}
 
 pub pow_mul : (x n m : ℕ) → (x ^ n) ^ m ≡ x ^ (n * m)
 pow_mul x n zero = pow-zero (x ^ n) ∙ sym (ap (λ (k : ℕ). x ^ k) (mul-zero n) ∙ pow-zero x)
@@ -35,6 +35,21 @@ mul_pow a b zero = pow-zero (a * b) ∙ sym (ap (λ (x : ℕ). x * b ^ 0) (pow-z
 mul_pow a b (suc n) =
     pow-suc (a * b) n ∙ ap (λ (x : ℕ). x * (a * b)) (mul_pow a b n) ∙ mul-mul-mul_comm (a ^ n) (b ^ n) a b ∙
     ap (λ (x : ℕ). x * (b ^ n * b)) (sym (pow-suc a n)) ∙ ap (λ (x : ℕ). a ^ suc n * x) (sym (pow-suc b n))
+
+-- one turn of squaring
+squared : (p r d h : ℕ) → (r * ((d * d) % p) ^ h) % p ≡ (r * d ^ (h + h)) % p
+squared p r d h =
+    sym (mod_mul_right r (((d * d) % p) ^ h) p) ∙ ap (λ (x : ℕ). (r * x) % p) (pow_mod p (d * d) h) ∙ mod_mul_right r ((d * d) ^ h) p ∙
+    ap (λ (x : ℕ). (r * x) % p) (mul_pow d d h ∙ sym (pow-add d h h))
+
+pub raise_odd : (p r d k : ℕ) → k % 2 ≡ 1 → ((r * d) % p * ((d * d) % p) ^ (k / 2)) % p ≡ (r * d ^ k) % p
+raise_odd p r d k e =
+    let all : suc (k / 2 + k / 2) ≡ k = omega (arith, half_odd k e) in
+    mod_mul_left (r * d) (((d * d) % p) ^ (k / 2)) p ∙ squared p (r * d) d (k / 2) ∙
+    ap (λ (x : ℕ). x % p) (mul_assoc r d (d ^ (k / 2 + k / 2)) ∙ ap (λ (x : ℕ). r * x) (sym (pow-succ' d (k / 2 + k / 2)) ∙ ap (λ (n : ℕ). d ^ n) all))
+
+pub raise_even : (p r d k : ℕ) → (k % 2 ≡ 1 → ⊥) → (r * ((d * d) % p) ^ (k / 2)) % p ≡ (r * d ^ k) % p
+raise_even p r d k e = squared p r d (k / 2) ∙ ap (λ (n : ℕ). (r * d ^ n) % p) (sym (half_even k e))
 
 module _ {p g q : ℕ} (cycle : Cycle p g q) where
   pub around : (n : ℕ) → g ^ n % p ≡ g ^ (n % q) % p
