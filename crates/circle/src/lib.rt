@@ -2,7 +2,7 @@
 //
 // Its points are the pairs (x, y) that meet the equation; they add as angles do, and of the 524 points
 // 131 are the group circ523: those whose 131-fold sum is null. This crate has the bare reckonings on
-// pairs, on which the kind of group in `circ523` stands, and in proofs/ the mathematics: the sum is
+// pairs, on which the kind of group in `circ523` stands, and in specs/Sums and proofs/ the mathematics: the sum is
 // associative and keeps to the circle, four times each point of the circle is a multiple of G, and so
 // each member is one of the 131 multiples of G, which are its logarithms.
 #![tactic(auto)]
