@@ -6,3 +6,4 @@ pub mod Finishes
 pub mod Hashes
 pub mod Honesty
 pub mod Accepting
+pub mod Nulls

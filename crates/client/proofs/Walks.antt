@@ -1,5 +1,5 @@
 -- The walk over the items of a batch, one item on.
-use Rattle.std.proofs.Common.{◌≡◌, ℕ, zero, suc, ◌+◌, ◌-◌, ◌*◌, ◌/◌, ◌%◌, ◌<◌, ◌≤◌, List, [], ◌∷◌, ◌++◌, length, take, drop, Some, None, Option, Ok, Err, Result, sym, refl, ap, ◌∙◌, arith, Bool, true, false, MatchResult}
+use Rattle.std.proofs.Common.{◌≡◌, ℕ, zero, suc, ◌+◌, ◌-◌, ◌*◌, ◌/◌, ◌%◌, ◌<◌, ◌≤◌, List, [], ◌∷◌, ◌++◌, length, take, drop, Some, None, Option, Ok, Err, Result, sym, refl, ap, ◌∙◌, subst, arith, Bool, true, false, MatchResult}
 use Rattle.std.specs.Option.{UnwrapsOrElse}
 use Rattle.std.specs.Simd.{first_chunks}
 use Rattle.std.specs.Result.{is_ok}
@@ -70,16 +70,29 @@ next_taken w s t (Some x) got some size whole steps d =
     one_taken w (chunks_exact_rest s) got.now (chunks_exact_rest t) some whole
     (steps.1.0 ∙ ap (λ (l : List ℕ). l ++ chunks_exact_rest t) (sym same)) (ap length same ∙ steps.1.1 ∙ size)
 
--- what a call that answered made, and what one that did not
+-- What a step answers for an item's own blind, where that is what it was given: that the two are equal is proved on its
+-- own, and not read off how the code writes the argument, so a body that gives another blind is refused for that blind.
+pub of_own_blind : (r : Result (Unit {0}) GroupFault) (made : List ℕ → List ℕ → List ℕ → Result (List ℕ) GroupFault) (input own given got part : List ℕ) →
+    MatchResult r (λ _. made input given got ≡ Ok part) (λ e. made input given got ≡ Err e) → given ≡ own →
+    MatchResult r (λ _. made input own got ≡ Ok part) (λ e. made input own got ≡ Err e)
+of_own_blind r made input own given got part answer same =
+    subst (λ (b : List ℕ). MatchResult r (λ _. made input b got ≡ Ok part) (λ e. made input b got ≡ Err e)) same answer
+
+-- what a call that answered made
 pub was_made : (r : Result (Unit {0}) GroupFault) (s : Result (List ℕ) GroupFault) (part : List ℕ) → is_ok r ≡ true →
     MatchResult r (λ _. s ≡ Ok part) (λ e. s ≡ Err e) → s ≡ Ok part
 was_made (Ok x) s part e made = made
 was_made (Err f) s part e made = absurd (let z : ◌≡◌ {A = Bool} false true = e in cc)
 
-pub was_refused : (r : Result (Unit {0}) GroupFault) (s : Result (List ℕ) GroupFault) (P : Unit {0} → Type 0) (f : BatchFault) (R : GroupFault → Type 0) →
-    MatchResult r (λ x. ◌≡◌ {A = Result (Unit {0}) BatchFault} (Err f) (Ok x)) R → MatchResult r P (λ e. s ≡ Err e) → (e : GroupFault) × (s ≡ Err e) × R e
-was_refused (Ok x) s P f R told made = absurd (let z : ◌≡◌ {A = ℕ} 0 1 = cc in omega arith)
-was_refused (Err e) s P f R told made = (e, made, told)
+-- which fault one that did not answer gave, and that this is what the step answers
+pub was_refused : (r : Result (Unit {0}) GroupFault) (f : BatchFault) (R : GroupFault → Type 0) →
+    MatchResult r (λ x. ◌≡◌ {A = Result (Unit {0}) BatchFault} (Err f) (Ok x)) R → (e : GroupFault) × (r ≡ Err e) × R e
+was_refused (Ok x) f R told = absurd (let z : ◌≡◌ {A = ℕ} 0 1 = cc in omega arith)
+was_refused (Err e) f R told = (e, refl, told)
+
+pub refused_for : (r : Result (Unit {0}) GroupFault) (s : Result (List ℕ) GroupFault) (P : Unit {0} → Type 0) (e : GroupFault) →
+    r ≡ Err e → MatchResult r P (λ d. s ≡ Err d) → s ≡ Err e
+refused_for r s P e is made = subst (λ (x : Result (Unit {0}) GroupFault). MatchResult x P (λ d. s ≡ Err d)) is made
 
 -- how many parts there are
 pub parts_many : (w k : ℕ) (xs : List ℕ) → length (first_chunks w k xs) ≡ k

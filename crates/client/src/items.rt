@@ -5,12 +5,11 @@ ghost use Rattle.client.specs.Batches.{input_under, sent as sent_for, walked};
 
 use faults::{BatchFault, GroupFault};
 use group::Group;
-use hashing::hash_to_group;
 use messages::token_input;
 use scratch::ENOUGH;
 use std::marker::PhantomData;
 use token::{is_null, nonzero};
-use voprf::blinding::evaluate;
+use voprf::blinding;
 
 // The input of an item's token, of its seed: a nonce and a context.
 pub fn input<G: Group>(epoch: u16, id: &[u8; 32], seed: &[u8; 64]) -> [u8; 100]
@@ -28,11 +27,13 @@ pub fn send<G: Group>(
     ensures { result ≡ sent_for G.model input.now blind.now }
 {
     let r = nonzero::<G>(blind)?;
-    let mapped = hash_to_group::<G>(work, input);
-    if is_null(mapped) {
+    // A blind is not 0 and the order is prime, so its multiple of an element is the null exactly where the element
+    // is: what is sent tells whether the input maps to the null.
+    let sent = blinding::blind::<G>(work, r, input);
+    if is_null(sent) {
         return Err(GroupFault::NullInput);
     }
-    Ok(evaluate(r, mapped))
+    Ok(sent)
 }
 
 // What is made of each item of a batch: bytes, as many of each, of its input, its blind and its answer.

@@ -9,7 +9,7 @@ use Rattle.std.proofs.lemmas.Slice.{take-put_mid}
 use Rattle.faults.specs.declared.BatchFault.{BatchFault}
 use Rattle.faults.specs.declared.BatchFault.TheVariants.{Item}
 use Rattle.group.proofs.Weighing.{item_within}
-use Rattle.client.proofs.Walks.{begins_at, next_taken, goes_on, stops, ends, was_made, was_refused, parts_many, none_many}
+use Rattle.client.proofs.Walks.{begins_at, next_taken, goes_on, stops, ends, of_own_blind, was_made, was_refused, refused_for, parts_many, none_many}
 use Rattle.client.proofs.items.Batch.walk.Goals as goal
 
 pub overflow_add-at : goal.overflow_add-at
@@ -71,8 +71,10 @@ loop-i-preserved g c =
     let given = next_taken m.element_width c.loop-i.answers c.next-in-loop-i.new.self c.next-in-loop-i.result c.unwrap_or_default-got.result
     m.element_some inv.got_wide inv.going.whole c.next-in-loop-i.ensures.steps c.unwrap_or_default-got.ensures in
     let part = c.make.new.place in
+    let own = of_own_blind c.make.result g.S.Step.made c.input-input.result c.in-Some.blind.now _
+    c.unwrap_or_default-got.result.now part c.make.ensures (search rules) in
     let made = was_made c.make.result (g.S.Step.made c.input-input.result c.in-Some.blind.now c.unwrap_or_default-got.result.now) part
-    (sym c.in_ok-map_err.ensures.variant) c.make.ensures in
+    (sym c.in_ok-map_err.ensures.variant) own in
     let on = goes_on m g.S.Step.made c.args.self.now.epoch c.args.self.now.id.now n c.args.self.now.seeds.now c.args.self.now.blinds.now c.args.self.now.answers.now
     i (iter_rest (zip_second (zip_first at))) (iter_rest (zip_second (zip_first next))) c.in-Some.seed.now
     (chunks_exact_rest (zip_second at)) c.in-Some.blind.now (chunks_exact_rest (zip_second next))
@@ -108,16 +110,19 @@ returns-in_err-map_err g c =
     let h : i < n = omega arith in
     let given = next_taken m.element_width c.loop-i.answers c.next-in-loop-i.new.self c.next-in-loop-i.result c.unwrap_or_default-got.result
     m.element_some inv.got_wide inv.going.whole c.next-in-loop-i.ensures.steps c.unwrap_or_default-got.ensures in
-    let answer = g.S.Step.made c.input-input.result c.in-Some.blind.now c.unwrap_or_default-got.result.now in
-    let told = was_refused c.make.result answer (λ _. answer ≡ Ok c.make.new.place) c.in_err-map_err.field-0.0 _ c.in_err-map_err.ensures.cases c.make.ensures in
+    let told = was_refused c.make.result c.in_err-map_err.field-0.0 _ c.in_err-map_err.ensures.cases in
     let fault = told.0 in
     let says = told.2 in
     let same : c.in_err-map_err.field-0.0 ≡ Item (c.in-Some.i + 1) fault = search rules in
+    let answer = g.S.Step.made c.input-input.result c.in-Some.blind.now c.unwrap_or_default-got.result.now in
+    let own = of_own_blind c.make.result g.S.Step.made c.input-input.result c.in-Some.blind.now _
+    c.unwrap_or_default-got.result.now c.make.new.place c.make.ensures (search rules) in
+    let refused : answer ≡ Err fault = refused_for c.make.result answer (λ _. answer ≡ Ok c.make.new.place) fault told.1 own in
     let stop = stops m g.S.Step.made c.args.self.now.epoch c.args.self.now.id.now n c.args.self.now.seeds.now c.args.self.now.blinds.now c.args.self.now.answers.now
     i (iter_rest (zip_second (zip_first at))) (iter_rest (zip_second (zip_first next))) c.in-Some.seed.now
     (chunks_exact_rest (zip_second at)) c.in-Some.blind.now (chunks_exact_rest (zip_second next))
     (chunks_exact_rest c.loop-i.answers) c.unwrap_or_default-got.result.now (chunks_exact_rest c.next-in-loop-i.new.self) (take (i * g.S.Step.wide) c.loop-i.out)
-    inv.going h s.0.1 s.1.1.0 (s.1.1.1 ∙ inv.blind_wide) given c.input-input.result fault c.input-input.ensures told.1 in
+    inv.going h s.0.1 s.1.1.0 (s.1.1.1 ∙ inv.blind_wide) given c.input-input.result fault c.input-input.ensures refused in
     rw (p.1, p.2) (stop ∙ ap (λ (k : ℕ). Err (Item (k + 1) fault)) (sym s.0.0.1.1) ∙ ap (λ (f : BatchFault). Err f) (sym same))
 
 pub returns : goal.returns
