@@ -110,3 +110,32 @@ impl<'a> Book for ChainedBook<'a> {
         self.rows.capacity
     }
 }
+
+// A book may be read as records too, by the code of chains and by whoever looks along them; only its own calls write.
+impl<'a> Records for ChainedBook<'a> {
+    ghost table = { table_in };
+
+    fn places(&self) -> u16 {
+        self.rows.places()
+    }
+
+    fn head(&self, chain: u8) -> u16 {
+        self.rows.head(chain)
+    }
+
+    fn count(&self) -> u16 {
+        self.rows.count()
+    }
+
+    fn next(&self, number: u16) -> u16 {
+        self.rows.next(number)
+    }
+
+    fn epoch(&self, number: u16) -> u16 {
+        self.rows.epoch(number)
+    }
+
+    fn holds(&self, number: u16, epoch: u16, nonce: &[u8; 32]) -> bool {
+        self.rows.holds(number, epoch, nonce)
+    }
+}
