@@ -1,5 +1,6 @@
 pub mod Arguments
 pub mod Commands
+pub mod Hashes
 pub mod Kept
 pub mod Protocol
 pub mod Reading

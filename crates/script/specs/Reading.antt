@@ -99,6 +99,52 @@ three_of table at ws = then (first_bytes table at ws) (λ a. then (two_of table 
 abbrev pub four_of : Table → ℕ → List (List ℕ) → Result (List ℕ × List ℕ × List ℕ × List ℕ) LineFault
 four_of table at ws = then (first_bytes table at ws) (λ a. then (three_of table (at + 1) (rest_of ws)) (λ b. Ok (a, b.0, b.1, b.2)))
 
+-- the first word is taken, if there is one
+abbrev pub Splits : ℕ → List (List ℕ) → List (List ℕ) → Result (Bor (List ℕ)) LineFault → Type 0
+Splits at before after (Ok w) = before ≡ w.now ∷ after
+Splits at before after (Err f) = (before ≡ []) × (f ≡ MissingWord at)
+
+-- the first word is read as what it stands for, and the words after it are left
+abbrev pub Heads : {T : Type 0} → (ℕ → List (List ℕ) → Result T LineFault) →
+    ℕ → List (List ℕ) → List (List ℕ) → Result T LineFault → Type 0
+Heads first at before after (Ok x) = (first at before ≡ Ok x) × (after ≡ rest_of before)
+Heads first at before after (Err f) = first at before ≡ Err f
+
+-- so is a number read, the length of an outlet, a kind of book, and a group
+abbrev pub Numbers : ℕ → ℕ → List (List ℕ) → List (List ℕ) → Result ℕ LineFault → Type 0
+Numbers most = Heads (first_number most)
+
+abbrev pub Rooms : ℕ → List (List ℕ) → List (List ℕ) → Result ℕ LineFault → Type 0
+Rooms = Heads first_room
+
+abbrev pub Shelves : ℕ → List (List ℕ) → List (List ℕ) → Result Shelf LineFault → Type 0
+Shelves = Heads first_shelf
+
+abbrev pub Kinds : ℕ → List (List ℕ) → List (List ℕ) → Result Kind LineFault → Type 0
+Kinds = Heads first_kind
+
+-- all the words are had, or memory is wanting
+abbrev pub One : Table → ℕ → List (List ℕ) → Result (Vec ℕ Global) LineFault → Type 0
+One table at ws (Ok a) = one_of table at ws ≡ Ok (vec_items a)
+One table at ws (Err f) = (f ≡ Memory) ⊎ (one_of table at ws ≡ Err f)
+
+abbrev pub Two : Table → ℕ → List (List ℕ) → Result (Vec ℕ Global × Vec ℕ Global) LineFault → Type 0
+Two table at ws (Ok p) = two_of table at ws ≡ Ok (vec_items p.0, vec_items p.1)
+Two table at ws (Err f) = (f ≡ Memory) ⊎ (two_of table at ws ≡ Err f)
+
+abbrev pub Three : Table → ℕ → List (List ℕ) → Result (Vec ℕ Global × Vec ℕ Global × Vec ℕ Global) LineFault → Type 0
+Three table at ws (Ok p) = three_of table at ws ≡ Ok (vec_items p.0, vec_items p.1, vec_items p.2)
+Three table at ws (Err f) = (f ≡ Memory) ⊎ (three_of table at ws ≡ Err f)
+
+abbrev pub Four : Table → ℕ → List (List ℕ) → Result (Vec ℕ Global × Vec ℕ Global × Vec ℕ Global × Vec ℕ Global) LineFault → Type 0
+Four table at ws (Ok p) = four_of table at ws ≡ Ok (vec_items p.0, vec_items p.1, vec_items p.2, vec_items p.3)
+Four table at ws (Err f) = (f ≡ Memory) ⊎ (four_of table at ws ≡ Err f)
+
+-- the next word is counted, and left
+abbrev pub Counts : Arguments → Arguments → ℕ → Type 0
+Counts before after at =
+    (at ≡ before.next) × (after.next ≡ before.next + 1) × (after.words ≡ before.words) × (after.names ≡ before.names)
+
 -- the next word is read: the words after it are left, and it is counted
 abbrev pub Onward : Arguments → Arguments → Type 0
 Onward before after = (after.names ≡ before.names) × (left after.words ≡ rest_of (left before.words)) × (after.next ≡ before.next + 1)

@@ -12,6 +12,7 @@ pub mod answers;
 pub mod arguments;
 pub mod command;
 pub mod errors;
+mod hasher;
 pub mod names;
 pub mod protocol;
 pub mod reading;

@@ -3,13 +3,15 @@ ghost use Rattle.std.specs.Prelude.{◌≡◌, ℕ, List, None};
 ghost use Rattle.std.specs.Option.{option_map};
 ghost use Rattle.script.specs.Kept.{holds, Keeps};
 
+use crate::hasher::NameHasher;
 use std::alloc::{AllocError, Global};
 use std::collections::HashMap;
+use std::hash::BuildHasherDefault;
 
 // What a script has kept so far. A name that is set again has its new bytes alone.
 #[derive(Drop)]
 pub struct Names {
-    kept: HashMap<Vec<u8>, Vec<u8>>,
+    kept: HashMap<Vec<u8>, Vec<u8>, BuildHasherDefault<NameHasher>>,
 }
 
 impl Names {
@@ -18,7 +20,7 @@ impl Names {
         ensures { (name : List ℕ) → holds result name ≡ None }
     {
         Names {
-            kept: HashMap::new(heap),
+            kept: HashMap::with_hasher(heap, BuildHasherDefault::new()),
         }
     }
 

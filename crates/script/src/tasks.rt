@@ -10,11 +10,14 @@ use crate::command::Command;
 use crate::errors::LineFault;
 use crate::names::Names;
 use crate::protocol::Action;
-use crate::reading::{Arguments, LONGEST, Shelf};
+use crate::reading::{Arguments, LONGEST};
 use crate::statements::Statement;
 use crate::{protocol, statements};
 use commands::Kind;
 use std::alloc::Global;
+
+// the kind of book in a task, which callers name beside it
+pub use crate::reading::Shelf;
 
 #[derive(Drop)]
 pub enum Task {
@@ -73,12 +76,8 @@ pub enum Call {
 pub fn read(statement: Statement<'_>, names: &Names, heap: Global) -> Result<Task, LineFault>
     ensures { Asks (asked (holds names.now) statement.entry.command (command_at (option_map (λ x. x.now) statement.entry.name) + 1) (left statement.entry.arguments)) result }
 {
-    let mut arguments = Arguments {
-        words: statement.arguments,
-        next: statements::command_at(statement.name) + 1,
-        names,
-        heap,
-    };
+    let next = statements::command_at(statement.name) + 1;
+    let mut arguments = Arguments::new(statement.arguments, next, names, heap);
     let task = match statement.command {
         Command::Digest => Task::Digest {
             input: arguments.bytes()?,

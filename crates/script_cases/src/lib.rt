@@ -6,11 +6,13 @@ ghost use Rattle.std.specs.Prelude.{◌≡◌};
 
 #[cfg(test)]
 mod tests {
-    use script::arguments;
     use script::errors::LineFault;
     use script::names::Names;
     use script::session::Session;
+    use script::tasks::Shelf;
+    use script::{arguments, reading};
     use std::test::Fail;
+    use text::words::Words;
 
     // What is wrong with a line.
     fn wrong(session: &mut Session, line: &[u8]) -> Option<LineFault> {
@@ -78,6 +80,22 @@ mod tests {
         assert_eq!(rt;
             arguments::read(b"$order.3", 2, &names, &mut bytes),
             Err(LineFault::NoToken { word: 2 })
+        );
+        Ok(())
+    }
+
+    #[test]
+    fn words_are_read_in_their_order(rt: HostRuntime) -> Result<(), Fail> {
+        let names = Names::new(rt.alloc());
+        let words = Words::of(b"01 02 03 04");
+        let (first, second, third, fourth) = reading::four(words, 2, &names, rt.alloc())?;
+        assert_eq!(rt; first.as_slice(), [1].as_slice());
+        assert_eq!(rt; second.as_slice(), [2].as_slice());
+        assert_eq!(rt; third.as_slice(), [3].as_slice());
+        assert_eq!(rt; fourth.as_slice(), [4].as_slice());
+        assert_eq!(rt;
+            reading::shelf_and_length(Words::of(b"tape 64"), 2),
+            Ok((Shelf::Tape, 64))
         );
         Ok(())
     }

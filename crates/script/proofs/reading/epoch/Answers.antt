@@ -1,6 +1,6 @@
 use Rattle.std.proofs.Common.{◌≤◌, arith}
 use Rattle.script.proofs.Numbers.{first_within}
-use Rattle.script.proofs.reading.Arguments.epoch.Goals as goal
+use Rattle.script.proofs.reading.epoch.Goals as goal
 
 pub overflow_cast-result : goal.overflow_cast-result
 overflow_cast-result c =
